@@ -1,0 +1,4 @@
+pub mod Faults
+pub mod Origin
+pub mod Sink
+pub mod Wire
