@@ -1,12 +1,11 @@
 -- What the steps of a folder do to its contents as they read.
-use Rattle.std.proofs.Common.{◌≡◌, ℕ, ◌<◌, ◌≤◌, Bool, true, false, cond, List, [], ◌∷◌, ◌++◌, length, take, Option, Some, None, IsSome, Decides, refl, sym, ◌∙◌, ap, subst, arith}
+use Rattle.std.proofs.Common.{◌≡◌, ℕ, Bool, true, false, cond, List, [], ◌∷◌, ◌++◌, length, Option, Some, None, Decides, refl, ◌∙◌, ap, subst, arith}
 use Rattle.std.specs.Prelude.{◌≢◌, bytes_eq}
 use Rattle.std.specs.Option.{option_map}
 use Rattle.std.proofs.lemmas.Slice.Eq.{bytes_eq-Decides}
-use Rattle.std.proofs.lemmas.Bool.{false≢true}
 use Rattle.std.proofs.lemmas.List.{take_all}
-use Rattle.dm_disk_model.specs.File.{File, empty_file}
-use Rattle.dm_disk_model.specs.Folder.{Names, with_name, Change, Created, Renamed, Removed, after_change, after_changes, Folder, names_of, names_after, Contents, contents_of, AreApart, IsSoundFolder, FileSteps, Creates, Changes, SyncsNames}
+use Rattle.dm_disk_model.specs.File.{File}
+use Rattle.dm_disk_model.specs.Folder.{Names, with_name, Change, Created, Renamed, Removed, after_change, after_changes, Folder, names_of, names_after, contents_of, AreApart, IsSoundFolder, FileSteps, Creates, Changes, SyncsNames}
 
 -- the test of two names
 bytes_eq_same : (name : List ℕ) → bytes_eq name name ≡ true
@@ -46,9 +45,9 @@ contents_by folder name number is = ap (option_map (λ k. (folder.file k).bytes)
 same_contents : (old new : Folder) (name : List ℕ) → names_of new name ≡ names_of old name → ((k : ℕ) → names_of old name ≡ Some k → new.file k ≡ old.file k) → contents_of new name ≡ contents_of old name
 same_contents old new name same files =
     contents_by new name (names_of old name) same ∙ by_number (names_of old name) files where
-  by_number : (number : Option ℕ) → ((k : ℕ) → number ≡ Some k → new.file k ≡ old.file k) → option_map (λ k. (new.file k).bytes) number ≡ option_map (λ k. (old.file k).bytes) number
-  by_number None h = refl
-  by_number (Some k) h = ap (λ (f : File). Some f.bytes) (h k refl)
+      by_number : (number : Option ℕ) → ((k : ℕ) → number ≡ Some k → new.file k ≡ old.file k) → option_map (λ k. (new.file k).bytes) number ≡ option_map (λ k. (old.file k).bytes) number
+      by_number None h = refl
+      by_number (Some k) h = ap (λ (f : File). Some f.bytes) (h k refl)
 
 -- a new file is empty
 pub created_reads : (name : List ℕ) (old new : Folder) → Creates name old new → contents_of new name ≡ Some []
