@@ -1,11 +1,11 @@
 -- What a crash may leave under one name that is given once.
-use Rattle.std.specs.Prelude.{◌≡◌, ◌⊎◌, ℕ, ◌≤◌, List, [], length, Option, Some, None}
+use Rattle.std.specs.Prelude.{◌≡◌, ◌≢◌, ◌⊎◌, ℕ, ◌≤◌, List, [], length, Option, Some, None}
 use Rattle.dm_disk_model.specs.declared.place.Area.{Area}
 use Rattle.dm_disk_model.specs.declared.place.Area.TheVariants.{State, Files}
 use Rattle.dm_disk_model.specs.declared.place.Place.{Place}
 use Rattle.dm_disk_model.specs.File.{File}
 use Rattle.dm_disk_model.specs.Folder.{Folder, Contents, names_of, EachPrefix}
-use Rattle.dm_disk_model.specs.Disk.{DiskState, Image, History, folder_in, MayLeave}
+use Rattle.dm_disk_model.specs.Disk.{DiskState, Image, History, folder_in, MayLeave, ChangesOnly, now}
 
 -- whichever changes of names survive, the name has no file
 abbrev pub IsAbsent : List ℕ → Folder → Type 0
@@ -52,3 +52,8 @@ pub record Throughout (old new : History) (P : DiskState → Type 0) : Type 0 wh
   pub later : old.moment ≤ new.moment
   pub kept : (t : ℕ) → t ≤ old.moment → new.at t ≡ old.at t
   pub each : (t : ℕ) → old.moment ≤ t → t ≤ new.moment → P (new.at t)
+
+-- Whatever is done at one place: every other place reads as before, and a name that never stands stays so at each moment.
+pub record KeepsOthers (place : Place) (old new : History) : Type 0 where
+  pub others : ChangesOnly place (now old) (now new)
+  pub absent : (target : Place) → target.name ≢ place.name → NeverStands target (now old) → Throughout old new (NeverStands target)
