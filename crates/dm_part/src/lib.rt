@@ -41,6 +41,7 @@ pub fn put<D: Disk>(disk: &mut D, part: &Place, at: u64, piece: &[u8]) -> Result
     requires { D.tells → Stands (now (D.history disk.old)) part.now }
     ensures written { D.tells → (file : List ℕ) → bytes_at (now (D.history disk.old)) part.now ≡ Some file
         → OnOk result (bytes_at (now (D.history disk.new)) part.now ≡ Some (overwrite file at piece.now)) }
+    ensures stands { D.tells → OnOk result (Stands (now (D.history disk.new)) part.now) }
     ensures keeps { D.tells → KeepsOthers part.now (D.history disk.old) (D.history disk.new) }
     ensures near { OnOk result (at + length piece.now < 2 ^ 63) }
     ensures cause { HasCause disk_kind (D.faults disk.old) (D.faults disk.new) result }
@@ -53,6 +54,7 @@ pub fn settle<D: Disk>(disk: &mut D, part: &Place) -> Result<(), DiskFault>
     requires { D.tells → Stands (now (D.history disk.old)) part.now }
     ensures settled { D.tells → (file : List ℕ) → bytes_at (now (D.history disk.old)) part.now ≡ Some file
         → OnOk result (IsSettled part.now file (now (D.history disk.new)) × (bytes_at (now (D.history disk.new)) part.now ≡ Some file)) }
+    ensures stands { D.tells → OnOk result (Stands (now (D.history disk.new)) part.now) }
     ensures keeps { D.tells → KeepsOthers part.now (D.history disk.old) (D.history disk.new) }
     ensures cause { HasCause disk_kind (D.faults disk.old) (D.faults disk.new) result }
 {
