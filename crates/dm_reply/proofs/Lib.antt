@@ -1,0 +1,5 @@
+pub mod FieldLemmas
+pub mod HeadLemmas
+pub mod ManyLines
+pub mod ReceivingLemmas
+pub mod ContentLemmas

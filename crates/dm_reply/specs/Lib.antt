@@ -1,0 +1,9 @@
+pub mod Content
+pub mod Faults
+pub mod Fields
+pub mod Head
+pub mod Look
+pub mod Reader
+pub mod Received
+pub mod Reply
+pub mod Values
