@@ -1,4 +1,6 @@
+pub mod Counts
 pub mod Faults
 pub mod Origin
 pub mod Sink
+pub mod SinkMem
 pub mod Wire
