@@ -15,8 +15,8 @@ use Rattle.dm_edge.specs.Wire.{Asked, Told, Receives}
 pub may_give : (cuts : List ℕ) (k room : ℕ) → All (λ cut. 0 < cut) cuts → 0 < room → 0 < option_map_or (min room) (slice_get cuts k) room
 may_give cuts k room good some =
     elim ((slice_get_cases cuts k).1) [
-      inl found ↦ let cut : 0 < found.0 = omega (arith, good k found.0 found.1, found.3) in rw found.2 (omega arith)
-    | inr past ↦ rw past.1 some
+      | inl found ↦ let cut : 0 < found.0 = omega (arith, good k found.0 found.1, found.3) in rw found.2 (omega arith)
+      | inr past ↦ rw past.1 some
     ]
 
 -- nothing is given only where nothing is left
@@ -38,8 +38,8 @@ received given n stream sent buffer bytes ended = record {
     take-add given n stream ∙ ap (λ xs. take given stream ++ xs) (sym bytes),
     λ _. rw bytes (rw (← drop-drop n given stream) (sym (take-append-drop n (drop given stream)))),
     λ none some. rw (none, add-zero) (ended none some),
-    λ none _. rw (none, add-zero) refl
-  )
+    λ none _. rw (none, add-zero) refl,
+  );
 }
 
 abbrev pub wire_at : Asked → Told → List ℕ → List (ℕ × WireFault) → ℕ → ℕ → WireCounts → WireState
@@ -52,10 +52,10 @@ pub gave : (asked : Asked) (cuts : List ℕ) (failing : List (ℕ × WireFault))
     → n ≡ next_size (wire_at asked (told_at given stream sent) cuts failing calls receives counts) (length buffer)
     → take n buffer ≡ take n (drop given stream) → next ≡ raised_by 1 calls → after ≡ raised_by 1 receives
     → GivesNext (wire_at asked (told_at given stream sent) cuts failing calls receives counts)
-        (wire_at asked (told_at (given + n) stream sent) cuts failing next after counts) n buffer
+    (wire_at asked (told_at (given + n) stream sent) cuts failing next after counts) n buffer
 gave asked cuts failing calls receives next after counts given n stream sent buffer unlisted size bytes called received = record {
   unlisted = unlisted;
   size = size;
   bytes = bytes;
-  after = rw (take-add given n stream, ← drop-drop n given stream, called, received) refl
+  after = rw (take-add given n stream, ← drop-drop n given stream, called, received) refl;
 }

@@ -51,7 +51,7 @@ fresh_wire asked script = record {
   failing = script.failing;
   calls = 0;
   receives = 0;
-  counts = record { failed = 0; timeout = 0 }
+  counts = record { failed = 0; timeout = 0 };
 }
 
 -- a send that isn't listed adds its whole piece
@@ -77,7 +77,7 @@ pub record GivesNext (before now : WireState) (n : ℕ) (buffer : List ℕ) : Ty
   pub after : now ≡ record before {
     told = record before.told { given = before.told.given ++ take n before.told.left; left = drop n before.told.left };
     calls = raised_by 1 before.calls;
-    receives = raised_by 1 before.receives
+    receives = raised_by 1 before.receives;
   }
 
 -- a receive that is listed fails in that way, and gives nothing
@@ -90,7 +90,7 @@ abbrev pub closed_as : Exchange → Closed
 closed_as exchange = record {
   asked = record { address = exchange.address; id = exchange.id; attempt = exchange.attempt };
   sent = exchange.sent;
-  stream = exchange.stream
+  stream = exchange.stream;
 }
 
 pub record NetState : Type 0 where
@@ -102,6 +102,11 @@ pub record NetState : Type 0 where
   pub closed : List Closed
   pub counts : NetCounts
 
+-- what a scripted net keeps true
+pub record IsGoodNet (coming : List WireScript) (failing : List (ℕ × NetFault)) : Type 0 where
+  pub scripts : All IsGood coming
+  pub faults : All (λ entry. entry.1 ≢ net.NoMemory) failing
+
 -- a net before its first call
 abbrev pub fresh_net : List WireScript → List (ℕ × NetFault) → NetState
 fresh_net scripts failing = record {
@@ -109,7 +114,7 @@ fresh_net scripts failing = record {
   failing = failing;
   calls = 0;
   closed = [];
-  counts = record { no_route = 0; refused = 0; timeout = 0; failed = 0 }
+  counts = record { no_route = 0; refused = 0; timeout = 0; failed = 0 };
 }
 
 -- a connect that isn't listed takes the next wire

@@ -1,4 +1,4 @@
-ghost use Rattle.std.specs.Prelude.{◌≡◌, ◌<◌, ℕ, [], length, All, IfOk, IfErr, slice_get, map};
+ghost use Rattle.std.specs.Prelude.{◌≡◌, ◌≢◌, ◌<◌, ℕ, [], length, All, IfOk, IfErr, slice_get, map};
 ghost use Rattle.std.specs.Option.{option_copied, option_map};
 ghost use Rattle.dm_types.specs.Faults.{HasCause, NoneFell, Rose};
 ghost use Rattle.dm_edge.specs.Counts.{net_count, wire_count};
@@ -9,8 +9,10 @@ ghost use Rattle.dm_edge.specs.declared.fault.WireFault.{WireFault as OnWire};
 
 use crate::chain::Chain;
 use crate::script::listed_fault;
-use crate::{EveryByte, Exchange, Net, NetCounts, NetFails, NetFault, WireCounts, WireMem};
-use crate::{WireScript, WireScripts};
+use crate::{
+    EveryByte, Exchange, Net, NetCounts, NetFails, NetFault, WireCounts, WireMem, WireScript,
+    WireScripts,
+};
 use dm_types::{Address, Attempt, ItemId, NoMemory, Text};
 use std::alloc::Global;
 use std::collections::VecDeque;
@@ -28,14 +30,14 @@ pub struct NetScript {
 }
 
 impl Model for NetScript {
-    ghost use Rattle.std.specs.Prelude.{map, All};
-    ghost use Rattle.dm_edge.specs.Script.{NetState, IsGood, closed_as};
+    ghost use Rattle.std.specs.Prelude.{map};
+    ghost use Rattle.dm_edge.specs.Script.{NetState, IsGoodNet, closed_as};
 
     ghost Value = { NetState };
 
     ghost view = { λ n. record { coming = n.coming.items; failing = n.failing; calls = n.calls; closed = map closed_as n.closed; counts = n.counts } };
 
-    ghost invariant = { λ n. All IsGood n.coming.items };
+    ghost invariant = { λ n. IsGoodNet n.coming.items n.failing };
 }
 
 impl From<NoMemory> for NetFault {
@@ -62,18 +64,20 @@ fn copied(alloc: Global, address: &Address) -> Result<Address, NoMemory>
 }
 
 impl NetScript {
-    /// A net with these wires, whose listed connects fail.
-    pub fn new(wires: WireScripts, failing: NetFails) -> NetScript
-        requires { All IsGood wires }
-        ensures { result ≡ fresh_net wires failing }
+    /// A net with these wires, whose listed connects fail. The lists are taken over, so no memory
+    /// is wanting here, only in `connect`.
+    pub fn new(wires: WireScripts, failing: NetFails) -> Result<NetScript, NoMemory>
+        requires scripts { All IsGood wires }
+        requires faults { All (λ entry. entry.1 ≢ NetFault.NoMemory) failing }
+        ensures { result ≡ Ok (fresh_net wires failing) }
     {
-        NetScript {
+        Ok(NetScript {
             coming: VecDeque::from_vec(wires.into_vec()),
             failing,
             calls: 0,
             closed: Chain::new(),
             counts: NetCounts::NONE,
-        }
+        })
     }
 
     /// What went over a wire that is closed, at its place from 0 in the order of closing.
@@ -109,7 +113,7 @@ impl Net for NetScript {
 
     ghost tells = { Unit {0} };
 
-    ghost origin_of = { λ _. record { } };
+    ghost origin_of = { λ _. record {} };
 
     ghost closed = { λ n. n.closed };
 

@@ -37,3 +37,56 @@ fn a_clock_repeats_its_last_moment(rt: HostRuntime) -> Result<(), Fail> {
     assert_eq!(rt; clock.now(), 7);
     Ok(())
 }
+
+fn refusal<N: Net>(alloc: Global, net: &mut N, to: &Address) -> Option<NetFault> {
+    match net.connect(alloc, to, ItemId(1), Attempt(1)) {
+        Ok(wire) => {
+            net.close(wire);
+            None
+        }
+        Err(fault) => Some(fault),
+    }
+}
+
+#[test]
+fn a_net_goes_through_its_scripts(rt: HostRuntime) -> Result<(), Fail> {
+    let to = address(rt.alloc())?;
+    let mut wires = Listed::new(rt.alloc());
+    wires.push(WireScript {
+        stream: Text::from_bytes(rt.alloc(), b"hello")?,
+        cuts: numbers(rt.alloc(), &[2])?,
+        failing: Listed::from_vec(Vec::from_slice(rt.alloc(), &[(3, WireFault::Timeout)])?),
+    })?;
+    let failing = Listed::from_vec(Vec::from_slice(rt.alloc(), &[(1, NetFault::Refused)])?);
+    let mut net = NetScript::new(wires, failing)?;
+
+    let mut wire = net
+        .connect(rt.alloc(), &to, ItemId(4), Attempt(1))
+        .expect(&rt, "connects");
+    let mut buf = [0; 8];
+    assert_eq!(rt; wire.send(b"GET"), Ok(()));
+    assert_eq!(rt; wire.receive(&mut buf), Ok(2));
+    assert_eq!(rt; &buf[..2], b"he".as_slice());
+    assert_eq!(rt; wire.receive(&mut buf), Ok(3));
+    assert_eq!(rt; &buf[..3], b"llo".as_slice());
+    assert_eq!(rt; wire.receive(&mut buf), Err(WireFault::Timeout));
+    assert_eq!(rt; wire.receive(&mut buf), Ok(0));
+    net.close(wire);
+
+    let closed = net.closed(0).expect(&rt, "is kept");
+    assert!(rt; closed.address.text.is(b"http://a.test/f"));
+    assert_eq!(rt; (closed.id, closed.attempt), (ItemId(4), Attempt(1)));
+    assert!(rt; closed.sent.is(b"GET"));
+    assert!(rt; closed.stream.is(b"hello"));
+    assert!(rt; net.closed(1).is_none());
+    assert_eq!(rt; refusal(rt.alloc(), &mut net, &to), Some(NetFault::Refused));
+    assert_eq!(rt; refusal(rt.alloc(), &mut net, &to), Some(NetFault::NoRoute));
+    let counts = NetCounts {
+        no_route: 1,
+        refused: 1,
+        timeout: 1,
+        failed: 0,
+    };
+    assert_eq!(rt; net.counts(), counts);
+    Ok(())
+}

@@ -34,13 +34,14 @@ impl Model for WireMem {
     ghost Value = { WireState };
 
     ghost view = { λ w. record {
-        asked = record { address = w.exchange.address; id = w.exchange.id; attempt = w.exchange.attempt };
-        told = record { given = take w.given w.exchange.stream; left = drop w.given w.exchange.stream; sent = w.exchange.sent };
-        cuts = w.cuts;
-        failing = w.failing;
-        calls = w.calls;
-        receives = w.receives;
-        counts = w.counts } };
+      asked = record { address = w.exchange.address; id = w.exchange.id; attempt = w.exchange.attempt };
+      told = record { given = take w.given w.exchange.stream; left = drop w.given w.exchange.stream; sent = w.exchange.sent };
+      cuts = w.cuts;
+      failing = w.failing;
+      calls = w.calls;
+      receives = w.receives;
+      counts = w.counts;
+    } };
 
     ghost invariant = { λ w. IsGoodWire w.given w.exchange.stream w.cuts w.failing };
 }
@@ -81,7 +82,7 @@ impl Wire for WireMem {
 
     ghost tells = { Unit {0} };
 
-    ghost origin = { λ _. record { } };
+    ghost origin = { λ _. record {} };
 
     ghost asked = { λ w. w.asked };
 
