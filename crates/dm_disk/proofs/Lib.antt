@@ -1,0 +1,4 @@
+pub mod Moments
+pub mod Looks
+pub mod Contents
+pub mod Replay

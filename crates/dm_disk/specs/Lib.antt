@@ -1,0 +1,5 @@
+pub mod Calls
+pub mod Failing
+pub mod SoundCalls
+pub mod Look
+pub mod Meter
