@@ -32,10 +32,10 @@ laid act number file written at bytes from old new is same long inside outside f
     ⊎_elim
     (λ (front : from + k < at). outside k low (inl front) ∙ shows k low ∙ sym (end ∙ overwrite_before was at bytes (from + k) front))
     (λ (back : at ≤ from + k).
-        ⊎_elim
-        (λ (here : from + k < at + length bytes). inside k low back here ∙ sym (end ∙ overwrite_within was at bytes (from + k) back here))
-        (λ (past : at + length bytes ≤ from + k). outside k low (inr past) ∙ shows k low ∙ sym (end ∙ overwrite_after was at bytes (from + k) past))
-        (cases_lt (from + k) (at + length bytes)))
+    ⊎_elim
+    (λ (here : from + k < at + length bytes). inside k low back here ∙ sym (end ∙ overwrite_within was at bytes (from + k) back here))
+    (λ (past : at + length bytes ≤ from + k). outside k low (inr past) ∙ shows k low ∙ sym (end ∙ overwrite_after was at bytes (from + k) past))
+    (cases_lt (from + k) (at + length bytes)))
     (cases_lt (from + k) at)
 
 -- the same over the calls so far

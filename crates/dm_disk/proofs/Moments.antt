@@ -20,7 +20,7 @@ pub pushed : (calls : List Call) (call : Call) (step : DiskState → DiskState �
 pushed calls call step stepped =
     let more : length (calls ++ call ∷ []) ≡ length calls + 1 = length_push calls call in
     let last : now (history_of (calls ++ call ∷ [])) ≡ in_folder call.area (folder_after (length calls) call.act) (disk_after calls) =
-        now_is (calls ++ call ∷ []) ∙ disk_after_push calls call in
+    now_is (calls ++ call ∷ []) ∙ disk_after_push calls call in
     record {
       later = omega (arith, more);
       kept = λ t le. ap disk_after (take-append-le t calls (call ∷ []) le);

@@ -3,3 +3,4 @@ pub mod Failing
 pub mod SoundCalls
 pub mod Look
 pub mod Meter
+pub mod Given

@@ -57,9 +57,9 @@ created bound name folder made =
     record {
       below = each_more folder next change (AreBelow (bound + 1)) refl refl (later bound folder made).below
           (λ other number has. ⊎_elim
-              (λ new. subst (λ (n : ℕ). n < bound + 1) new.1 (omega arith))
-              (λ old. let low = below_now other number old.1 in omega (arith, low))
-              (had_created names name bound other number has));
+          (λ new. subst (λ (n : ℕ). n < bound + 1) new.1 (omega arith))
+          (λ old. let low = below_now other number old.1 in omega (arith, low))
+          (had_created names name bound other number has));
       apart = each_more folder next change AreApart refl refl made.apart (AreApart-created names name bound unused apart_now);
       within = each_file folder.file bound empty_file IsWithin (omega arith) made.within;
     }
@@ -73,9 +73,9 @@ renamed bound from to folder made =
     record {
       below = each_more folder next change (AreBelow (bound + 1)) refl refl (later bound folder made).below
           (λ other number has. ⊎_elim
-              (λ new. let low = below_now from number new.1 in omega (arith, low))
-              (λ old. let low = below_now other number old.2 in omega (arith, low))
-              (had_renamed names from to other number has));
+          (λ new. let low = below_now from number new.1 in omega (arith, low))
+          (λ old. let low = below_now other number old.2 in omega (arith, low))
+          (had_renamed names from to other number has));
       apart = each_more folder next change AreApart refl refl made.apart (AreApart-renamed names from to (each_now folder AreApart made.apart));
       within = made.within;
     }

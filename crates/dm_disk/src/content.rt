@@ -39,7 +39,11 @@ fn length_past(act: &Act, number: u64, file: u64, before: u64) -> u64
 {
     match act {
         Act::Create { .. } => if file == number { 0 } else { before },
-        Act::Write { file: written, at, bytes } => {
+        Act::Write {
+            file: written,
+            at,
+            bytes,
+        } => {
             if file == *written {
                 before.max(*at + bytes.len() as u64)
             } else {
@@ -73,7 +77,11 @@ fn shorter(left: u64, room: usize) -> usize
     ensures room { result ≤ room }
     ensures some { 0 < left → 0 < room → 0 < result }
 {
-    if left < room as u64 { left as usize } else { room }
+    if left < room as u64 {
+        left as usize
+    } else {
+        room
+    }
 }
 
 /// Puts the file's bytes from a place on into the window. Past the end stand zeros.
@@ -110,7 +118,11 @@ fn lay_act(act: &Act, number: u64, file: u64, from: u64, window: &mut [u8])
                 clear(window);
             }
         }
-        Act::Write { file: written, at, bytes } => {
+        Act::Write {
+            file: written,
+            at,
+            bytes,
+        } => {
             if file == *written {
                 overlay(window, from, *at, bytes.bytes());
             }

@@ -5,6 +5,7 @@ mod call;
 mod content;
 mod failing;
 mod find;
+mod listing;
 mod log;
 mod memory;
 mod meter;

@@ -1,10 +1,12 @@
 ghost use Rattle.std.specs.Prelude.{◌≡◌, ◌++◌, ◌∷◌, [], ◌<◌, ◌+◌, ◌^◌, ℕ, length, OnOk, OnErr, Some, IsSome};
-ghost use Rattle.dm_disk_model.specs.Disk.{folder_in};
+ghost use Rattle.std.specs.Option.{option_map};
+ghost use Rattle.dm_disk_model.specs.Disk.{folder_in, bytes_at};
 ghost use Rattle.dm_disk_model.specs.Folder.{names_of};
 ghost use Rattle.dm_disk.specs.Calls.{disk_after, end_of, most_end};
 ghost use Rattle.dm_disk.specs.declared.call.Act.TheVariants as acts;
 
 use crate::call::{Act, Call};
+use crate::content::length_of;
 use crate::find::file_under;
 use dm_disk_model::{Area, Place};
 use dm_types::{NoMemory, Text};
@@ -105,6 +107,16 @@ impl Log {
             area,
             act: Act::SyncNames,
         })
+    }
+
+    /// The length of the file at a place, where one stands.
+    pub fn length(&self, place: &Place) -> Option<u64>
+        ensures { result ≡ option_map length (bytes_at (disk_after self.now.calls.items) place.now) }
+    {
+        match file_under(&self.calls, place.area, place.name.bytes()) {
+            Some(file) => Some(length_of(&self.calls, place.area, file)),
+            None => None,
+        }
     }
 
     /// The number of the file that stands at a place.

@@ -53,11 +53,11 @@ pub each_more : (old new : Folder) (change : Change) (P : Names → Type 0) → 
 each_more old new change P synced changes each last count =
     ⊎_elim
     (λ (before : take count (old.changes ++ change ∷ []) ≡ take count old.changes).
-        let same : names_after new count ≡ names_after old count = cc in subst P (sym same) (each count))
+    let same : names_after new count ≡ names_after old count = cc in subst P (sym same) (each count))
     (λ (all : take count (old.changes ++ change ∷ []) ≡ old.changes ++ change ∷ []).
-        let read = names_more old new change synced changes in
-        let same : names_after new count ≡ names_of new = cc in
-        subst P (sym (same ∙ read)) last)
+    let read = names_more old new change synced changes in
+    let same : names_after new count ≡ names_of new = cc in
+    subst P (sym (same ∙ read)) last)
     (prefix_cases old.changes change count)
 
 -- no change is left: the names as they read are all that there is
@@ -91,8 +91,8 @@ had_renamed names from to other number has =
     ⊎_elim
     (λ same. inl (same.0, sym same.1 ∙ has))
     (λ differs.
-        let left = had_removed names from other number (sym differs.1 ∙ has) in
-        inr (differs.0, left.0, left.1))
+    let left = had_removed names from other number (sym differs.1 ∙ has) in
+    inr (differs.0, left.0, left.1))
     (with_name_cases (with_name names from None) to (names from) other)
 
 pub AreApart-removed : (names : Names) (name : List ℕ) → AreApart names → AreApart (after_change names (Removed name))

@@ -13,9 +13,9 @@ loop-left-preserved c = record {
 pub returns-in-Made : goal.returns-in-Made
 returns-in-Made c =
     sym (stepped c.args.calls.now c.loop-left.left c.index-calls-left.result c.args.area c.args.name.now c.loop-left.name.now Made
-        (omega arith) c.loop-left.invariant.within c.index-calls-left.is c.in-Made.ensures c.loop-left.invariant.same)
+    (omega arith) c.loop-left.invariant.within c.index-calls-left.is c.in-Made.ensures c.loop-left.invariant.same)
 
 pub returns-in-Nowhere : goal.returns-in-Nowhere
 returns-in-Nowhere c =
     sym (stepped c.args.calls.now c.loop-left.left c.index-calls-left.result c.args.area c.args.name.now c.loop-left.name.now Nowhere
-        (omega arith) c.loop-left.invariant.within c.index-calls-left.is c.in-Nowhere.ensures c.loop-left.invariant.same)
+    (omega arith) c.loop-left.invariant.within c.index-calls-left.is c.in-Nowhere.ensures c.loop-left.invariant.same)
