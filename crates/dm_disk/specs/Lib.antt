@@ -4,3 +4,4 @@ pub mod SoundCalls
 pub mod Look
 pub mod Meter
 pub mod Given
+pub mod Memory
