@@ -2,3 +2,5 @@ pub mod Keeping
 pub mod Naming
 pub mod Places
 pub mod Reading
+pub mod FileBytes
+pub mod PendingNames

@@ -1,0 +1,129 @@
+ghost use Rattle.std.specs.Prelude.{◌≡◌, ◌++◌, ◌∷◌, [], ◌<◌, ◌+◌, ◌^◌, ℕ, length, OnOk, OnErr, Some, IsSome};
+ghost use Rattle.std.specs.Option.{option_map};
+ghost use Rattle.dm_disk_model.specs.Disk.{folder_in, bytes_at};
+ghost use Rattle.dm_disk_model.specs.Folder.{names_of};
+ghost use Rattle.dm_disk.specs.Calls.{disk_after, end_of, most_end};
+ghost use Rattle.dm_disk.specs.declared.call.Act.TheVariants as acts;
+
+use crate::call::{Act, Call};
+use crate::content::length_of;
+use crate::find::file_under;
+use dm_disk_model::{Area, Place};
+use dm_types::{NoMemory, Text};
+use std::alloc::Global;
+
+/// The calls that changed the disk, in order. Each is one moment of its history. Where memory is
+/// wanting nothing is recorded.
+#[derive(Drop)]
+pub(crate) struct Log {
+    pub alloc: Global,
+    pub calls: Vec<Call>,
+    ghost near: { most_end calls.items < 2 ^ 63 },
+}
+
+impl Log {
+    pub fn new(alloc: Global) -> Log
+        ensures { result.calls.items ≡ [] }
+    {
+        Log {
+            alloc,
+            calls: Vec::new(alloc),
+        }
+    }
+
+    pub fn push(&mut self, call: Call) -> Result<(), NoMemory>
+        requires { end_of call.act < 2 ^ 63 }
+        ensures ok { OnOk result (self.new.calls.items ≡ self.old.calls.items ++ call ∷ []) }
+        ensures err { OnErr result (self.new.calls.items ≡ self.old.calls.items) }
+    {
+        match self.calls.push(call) {
+            Ok(()) => Ok(()),
+            Err(_) => Err(NoMemory),
+        }
+    }
+
+    pub fn create(&mut self, place: &Place) -> Result<(), NoMemory>
+        ensures ok { OnOk result (self.new.calls.items ≡ self.old.calls.items ++ record { area = place.now.area; act = acts.Create place.now.name } ∷ []) }
+        ensures err { OnErr result (self.new.calls.items ≡ self.old.calls.items) }
+    {
+        let name = place.name.copy(self.alloc)?;
+        self.push(Call {
+            area: place.area,
+            act: Act::Create { name },
+        })
+    }
+
+    pub fn write(&mut self, area: Area, file: u64, at: u64, bytes: &[u8]) -> Result<(), NoMemory>
+        requires { at + length bytes.now < 2 ^ 63 }
+        ensures ok { OnOk result (self.new.calls.items ≡ self.old.calls.items ++ record { area = area; act = acts.Write file at bytes.now } ∷ []) }
+        ensures err { OnErr result (self.new.calls.items ≡ self.old.calls.items) }
+    {
+        let bytes = Text::from_bytes(self.alloc, bytes)?;
+        self.push(Call {
+            area,
+            act: Act::Write { file, at, bytes },
+        })
+    }
+
+    pub fn sync(&mut self, area: Area, file: u64) -> Result<(), NoMemory>
+        ensures ok { OnOk result (self.new.calls.items ≡ self.old.calls.items ++ record { area = area; act = acts.Sync file } ∷ []) }
+        ensures err { OnErr result (self.new.calls.items ≡ self.old.calls.items) }
+    {
+        self.push(Call {
+            area,
+            act: Act::Sync { file },
+        })
+    }
+
+    pub fn rename(&mut self, from: &Place, to: &Place) -> Result<(), NoMemory>
+        ensures ok { OnOk result (self.new.calls.items ≡ self.old.calls.items ++ record { area = from.now.area; act = acts.Rename from.now.name to.now.name } ∷ []) }
+        ensures err { OnErr result (self.new.calls.items ≡ self.old.calls.items) }
+    {
+        let area = from.area;
+        let from = from.name.copy(self.alloc)?;
+        let to = to.name.copy(self.alloc)?;
+        self.push(Call {
+            area,
+            act: Act::Rename { from, to },
+        })
+    }
+
+    pub fn remove(&mut self, place: &Place) -> Result<(), NoMemory>
+        ensures ok { OnOk result (self.new.calls.items ≡ self.old.calls.items ++ record { area = place.now.area; act = acts.Remove place.now.name } ∷ []) }
+        ensures err { OnErr result (self.new.calls.items ≡ self.old.calls.items) }
+    {
+        let name = place.name.copy(self.alloc)?;
+        self.push(Call {
+            area: place.area,
+            act: Act::Remove { name },
+        })
+    }
+
+    pub fn sync_names(&mut self, area: Area) -> Result<(), NoMemory>
+        ensures ok { OnOk result (self.new.calls.items ≡ self.old.calls.items ++ record { area = area; act = acts.SyncNames } ∷ []) }
+        ensures err { OnErr result (self.new.calls.items ≡ self.old.calls.items) }
+    {
+        self.push(Call {
+            area,
+            act: Act::SyncNames,
+        })
+    }
+
+    /// The length of the file at a place, where one stands.
+    pub fn length(&self, place: &Place) -> Option<u64>
+        ensures { result ≡ option_map length (bytes_at (disk_after self.now.calls.items) place.now) }
+    {
+        match file_under(&self.calls, place.area, place.name.bytes()) {
+            Some(file) => Some(length_of(&self.calls, place.area, file)),
+            None => None,
+        }
+    }
+
+    /// The number of the file that stands at a place.
+    pub fn file_at(&self, place: &Place) -> u64
+        requires { IsSome (names_of (folder_in place.now.area (disk_after self.now.calls.items)) place.now.name) }
+        ensures { names_of (folder_in place.now.area (disk_after self.now.calls.items)) place.now.name ≡ Some result }
+    {
+        file_under(&self.calls, place.area, place.name.bytes()).unwrap()
+    }
+}
