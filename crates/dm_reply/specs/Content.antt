@@ -38,7 +38,7 @@ ContentSays now new (Err fault) buffer content =
 -- Each answer with bytes gives at least one, and comes nearer to the end. The end comes where all was given.
 abbrev pub Advances : Reading → Reading → Result Got Broke → ℕ → Type 0
 Advances old new (Ok (got.Bytes n)) room =
-    (0 < n) × (n ≤ room) × (new.given ≡ old.given + n) × (new.given ≤ old.wanted) × (new.wanted ≡ old.wanted)
+    (0 < n) × (n ≤ room) × (new.given ≡ old.given + n) × (new.given ≤ old.wanted) × (new.wanted ≡ old.wanted) × (new.broke ≡ None)
 Advances old new (Ok got.End) room = (old.given ≡ old.wanted) × (new ≡ old)
 Advances old new (Err fault) room = new.wanted ≡ old.wanted
 
