@@ -1,10 +1,10 @@
 -- A text that is cut at the first of a byte.
-use Rattle.std.proofs.Common.{◌≡◌, ℕ, suc, ◌+◌, ◌≤◌, Bool, true, cond, not, ◌&&◌, ◌==◌, List, [], ◌∷◌, ◌++◌, length, take, drop, slice_index, codes, refl, sym, ap, ◌∙◌, arith}
+use Rattle.std.proofs.Common.{◌≡◌, ℕ, suc, ◌+◌, Bool, true, cond, not, ◌&&◌, ◌==◌, List, [], ◌∷◌, ◌++◌, length, take, drop, slice_index, codes, refl, sym, ap, ◌∙◌, arith}
 use Rattle.std.proofs.Math.Seq.{take-append_seam, drop-append_seam}
 use Rattle.std.proofs.lemmas.List.{append_cancel_left, take-append-drop}
 use Rattle.std.proofs.lemmas.List.Folds.{list_all-append}
 use Rattle.std.specs.List.{list_all, before_first, position_or_len}
-use Rattle.dm_request.specs.Address.{IsAddress, IsHost, from_first, is_slash, is_colon, port_part}
+use Rattle.dm_request.specs.Address.{IsAddress, from_first, is_slash, is_colon, port_part}
 use Rattle.dm_request.proofs.ListTests.{both_true}
 use Rattle.dm_request.proofs.HostBytes.{host_lacks}
 use Rattle.dm_request.proofs.Ports.{port_lacks, port_begins, port_part_injective}

@@ -1,5 +1,5 @@
 -- The last label of a host, and the bytes that a host has not.
-use Rattle.std.proofs.Common.{◌≡◌, ℕ, ◌-◌, ◌<◌, ◌≤◌, Bool, true, false, not, ◌==◌, List, length, get_or, drop, refl, ap, ◌∙◌, arith, codes, inl, inr}
+use Rattle.std.proofs.Common.{◌≡◌, ℕ, ◌-◌, ◌<◌, ◌≤◌, true, false, not, ◌==◌, List, length, get_or, drop, ap, ◌∙◌, arith, codes, inl, inr}
 use Rattle.std.proofs.lemmas.List.Sums.{suffix_len_is}
 use Rattle.std.specs.List.{list_all, after_last, suffix_len}
 use Rattle.dm_request.specs.Address.{IsHost, is_dot, is_host_byte}

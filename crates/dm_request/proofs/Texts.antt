@@ -1,5 +1,5 @@
 -- The pieces of a request, as they are written and as they are read.
-use Rattle.std.proofs.Common.{◌≡◌, ℕ, List, [], ◌∷◌, ◌++◌, append_assoc, codes, refl}
+use Rattle.std.proofs.Common.{◌≡◌, ℕ, List, [], ◌∷◌, ◌++◌, append_assoc, codes}
 use Rattle.dm_request.specs.Request.{line}
 
 general : (g t a c b h p k l m n o : List ℕ) → g ++ t ++ (a ++ c ++ b) ++ h ++ p ++ (c ++ k ++ l ++ m ++ n ++ o)

@@ -42,8 +42,8 @@ fn is_name_byte(byte: u8) -> bool
 
 /// Whether the name ends as a part's name does, in any case of the letters.
 fn ends_as_part(name: &[u8]) -> bool
-    ensures yes_ { IsTrue result → (front : List ℕ) × (fold_case name.now ≡ front ++ part_ending) }
-    ensures no_ { (front : List ℕ) → fold_case name.now ≡ front ++ part_ending → IsTrue result }
+    ensures found { IsTrue result → (front : List ℕ) × (fold_case name.now ≡ front ++ part_ending) }
+    ensures only { (front : List ℕ) → fold_case name.now ≡ front ++ part_ending → IsTrue result }
 {
     match name.len().checked_sub(PART_ENDING.len()) {
         None => false,

@@ -1,5 +1,5 @@
 use Rattle.std.proofs.Common.{◌==◌, sym}
-use Rattle.dm_request.proofs.Places.{place_none, place_within}
+use Rattle.dm_request.proofs.Places.{place_none}
 use Rattle.dm_request.proofs.address.first_place.Goals as goal
 
 pub returns-in-None-clause-place : goal.returns-in-None-clause-place

@@ -1,5 +1,5 @@
 -- The pieces that the text is cut into are the parts of each address that has the text.
-use Rattle.std.proofs.Common.{◌≡◌, ℕ, ◌++◌, List, Some, codes, sym, ap, ◌∙◌, subst, arith}
+use Rattle.std.proofs.Common.{◌++◌, Some, codes, sym, ap, ◌∙◌, subst, arith}
 use Rattle.std.proofs.lemmas.Bool.{false≢true}
 use Rattle.std.proofs.lemmas.Bool.Decides.{Decides-eqb}
 use Rattle.std.proofs.lemmas.Slice.Eq.{strip_prefix_is}

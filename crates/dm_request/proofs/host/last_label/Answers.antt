@@ -1,5 +1,5 @@
 -- At the end of the loop the last label begins at start.
-use Rattle.std.proofs.Common.{length, sym, ◌∙◌, arith}
+use Rattle.std.proofs.Common.{length, ◌∙◌, arith}
 use Rattle.std.proofs.lemmas.Slice.{between_to_end}
 use Rattle.dm_request.proofs.HostBytes.{last_from}
 use Rattle.dm_request.proofs.host.last_label.Goals as goal

@@ -1,5 +1,5 @@
 -- What parse reads is the decimal text of a number, and it reads each such text.
-use Rattle.std.proofs.Common.{sym, ap, ◌∙◌, subst, ◌≡◌, ℕ}
+use Rattle.std.proofs.Common.{sym, ◌∙◌, subst}
 use Rattle.std.proofs.lemmas.Bool.{false≢true}
 use Rattle.std.specs.Str.Parse.{ParsesUnsigned}
 use Rattle.dm_request.proofs.Ports.{reads, reads_all, decimal_begins, decimal_utf8}

@@ -1,5 +1,5 @@
 -- The port 80 is never written out.
-use Rattle.std.proofs.Common.{length, get_or, slice_range, ap, arith, ◌∙◌, ◌≡◌, ◌∷◌, rules}
+use Rattle.std.proofs.Common.{length, get_or, slice_range, ap, arith, ◌∙◌, ◌≡◌, ◌∷◌}
 use Rattle.std.proofs.lemmas.Slice.{first_rest}
 use Rattle.std.proofs.lemmas.Grind.{common_steps}
 use Rattle.std.specs.Fmt.{decimal}
