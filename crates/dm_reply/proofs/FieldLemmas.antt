@@ -1,5 +1,6 @@
 -- Fields by name, and the number that digits write.
-use Rattle.std.proofs.Common.{◌≡◌, ℕ, suc, zero, ◌+◌, ◌-◌, ◌*◌, ◌^◌, ◌<◌, ◌≤◌, Bool, true, List, [], ◌∷◌, length, take, get_or, ap, ◌∙◌, arith}
+use Rattle.std.specs.Prelude.{codes}
+use Rattle.std.proofs.Common.{refl, Some, None, false, if◌then◌else◌, ◌≡◌, ℕ, suc, zero, ◌+◌, ◌-◌, ◌*◌, ◌^◌, ◌<◌, ◌≤◌, Bool, true, List, [], ◌∷◌, length, take, get_or, ap, ◌∙◌, arith}
 use Rattle.std.proofs.lemmas.Bool.{and_parts, leb-true, lt-ltb, le-leb}
 use Rattle.std.proofs.lemmas.Str.Parse.{digit_at}
 use Rattle.std.proofs.lemmas.List.{length-take}
@@ -10,7 +11,7 @@ use Rattle.std.specs.Int.{IsInRange}
 use Rattle.std.specs.List.{list_all}
 use Rattle.std.specs.Char.{is_ascii_digit, digit_value}
 use Rattle.std.specs.Str.Parse.{AllDigits, digits_value}
-use Rattle.dm_reply.specs.Fields.{is_number}
+use Rattle.dm_reply.specs.Fields.{NameAndValue, values_of, is_number, number_within, length_of, plain_length, most_content}
 
 in_digits : (c : ℕ) → is_ascii_digit c ≡ true → IsInRange 48 57 c
 in_digits c e = let both = and_parts _ _ e in (leb-true _ _ both.0, leb-true _ _ both.1)
@@ -59,3 +60,27 @@ one_digit_more ds i is h =
       small = omega (arith, digits_value-lt 10 (take i ds) (front_digits ds i all), below_18 (length (take i ds)) (omega (arith, length-take i ds)));
       value = digits_value_more 10 ds i h ∙ ap (λ d. digits_value 10 (take i ds) * 10 + d) (omega (arith, value));
     }
+
+some_of_test : (b : Bool) (v w : ℕ) → (if b then Some v else None) ≡ Some w → (b ≡ true) × (v ≡ w)
+some_of_test true v w is = (refl, cc)
+some_of_test false v w is = absurd (cc)
+
+number_bounded : (text : List ℕ) (w : ℕ) → number_within text ≡ Some w → w ≤ most_content
+number_bounded text w is =
+    let found = some_of_test _ _ w is in
+    let small = leb-true (digits_value 10 text) most_content (and_parts _ _ found.0).1 in
+    omega (arith, found.1, small)
+
+length_bounded : (texts : List (List ℕ)) (w : ℕ) → length_of texts ≡ Some w → w ≤ most_content
+length_bounded [] w is = absurd (cc)
+length_bounded (text ∷ []) w is = number_bounded text w is
+length_bounded (text ∷ other ∷ others) w is = absurd (cc)
+
+bounded_test : (b : Bool) (texts : List (List ℕ)) (w : ℕ) → (if b then length_of texts else None) ≡ Some w → w ≤ most_content
+bounded_test true texts w is = length_bounded texts w is
+bounded_test false texts w is = absurd (cc)
+
+-- no content is longer than it may be
+pub plain_bounded : (fields : List NameAndValue) (w : ℕ) → plain_length fields ≡ Some w → w ≤ most_content
+unfolding plain_length
+plain_bounded fields w is = bounded_test _ (values_of (codes "content-length") fields) w is

@@ -57,7 +57,7 @@ pub framing_at : {front : List ℕ} {headers : List HeaderSpan} {r : ResponseSpa
     → plain_length (fields_of h) ≡ found
 framing_at at is = sym (is ∙ ap plain_length at.fields)
 
-take_past : (n : ℕ) (xs ys : List ℕ) → length xs ≤ n → take n (xs ++ ys) ≡ xs ++ take (n - length xs) ys
+pub take_past : (n : ℕ) (xs ys : List ℕ) → length xs ≤ n → take n (xs ++ ys) ≡ xs ++ take (n - length xs) ys
 take_past n xs ys h =
     let whole : length xs + (n - length xs) ≡ n = omega arith in
     subst (λ (k : ℕ). take k (xs ++ ys) ≡ xs ++ take (n - length xs) ys) whole (take-append-add xs ys (n - length xs))
@@ -77,6 +77,7 @@ many_more {text} m more = record {
   is = ap (λ t. t ++ more) m.is ∙ append_assoc m.lines (m.next ∷ m.rest) more;
   head = m.head;
   reads = m.reads;
+  last = m.last;
   count = m.count;
   in_line = m.in_line;
 }

@@ -3,3 +3,5 @@ pub mod HeadLemmas
 pub mod ManyLines
 pub mod ReceivingLemmas
 pub mod ContentLemmas
+pub mod LineLemmas
+pub mod Outcomes

@@ -1,5 +1,5 @@
 -- A head of too many fields, up to the first byte of the field that is too many.
-use Rattle.std.proofs.Common.{◌≡◌, ℕ, suc, zero, ◌+◌, ◌<◌, List, [], ◌∷◌, ◌++◌, length, take, drop, get_or, refl, sym, ap, ◌∙◌, subst, arith, All, append_assoc, length-append, IsTrue}
+use Rattle.std.proofs.Common.{◌≡◌, ℕ, suc, zero, ◌<◌, List, [], ◌∷◌, ◌++◌, length, take, drop, get_or, refl, sym, ap, ◌∙◌, subst, arith, All, append_assoc, length-append, IsTrue}
 use Rattle.std.specs.List.{flat_map}
 use Rattle.std.proofs.lemmas.Bool.{false≢true}
 use Rattle.std.proofs.lemmas.List.{take-append-le, take-append-drop, append-nil, take_at, length-take-le}
@@ -33,7 +33,7 @@ pub is_with_fields : (h : ResponseHead) (fields : List Field) → IsResponseHead
     → IsResponseHead (with_fields h fields)
 is_with_fields h fields is all = record { minor = is.minor; digits = is.digits; reason = is.reason; fields = all }
 
-token_in_line : (byte : ℕ) → IsTrue (is_token_byte byte) → IsInLine byte
+pub token_in_line : (byte : ℕ) → IsTrue (is_token_byte byte) → IsInLine byte
 unfolding is_token_byte
 token_in_line byte is =
     (λ e. false≢true (subst (λ b. IsTrue (is_token_byte b)) e is), λ e. false≢true (subst (λ b. IsTrue (is_token_byte b)) e is))
@@ -57,19 +57,16 @@ first_byte field is = of_name field.name refl is.name.0 is.name.1
       in_line = token_in_line c (subst (λ n. IsTrue (is_token_byte (get_or n 0 0))) e (all 0 0 some));
     }
 
--- text whose first bytes are known, with one byte at its end
-cut_last : (front lines tail : List ℕ) (next last : ℕ) → 0 < length tail
-    → front ++ last ∷ [] ≡ lines ++ next ∷ tail → (rest : List ℕ) × (front ≡ lines ++ next ∷ rest)
-cut_last front lines tail next last some is =
+-- a text that goes on past the first lines has the next byte
+pub cut_at : (front more lines tail : List ℕ) (next : ℕ) → length lines < length front
+    → front ++ more ≡ lines ++ next ∷ tail → (rest : List ℕ) × (front ≡ lines ++ next ∷ rest)
+cut_at front more lines tail next longer is =
     let k = suc (length lines) in
-    let sizes : length front + 1 ≡ length lines + suc (length tail) =
-    sym (length-append front (last ∷ [])) ∙ ap length is ∙ length-append lines (next ∷ tail) in
-    let whole = take-append-drop k front in
     let first : take k front ≡ lines ++ next ∷ [] =
-    sym (take-append-le k front (last ∷ []) (omega arith))
+    sym (take-append-le k front more (omega arith))
     ∙ ap (take k) (is ∙ sym (append_assoc lines (next ∷ []) tail))
     ∙ take_at (lines ++ next ∷ []) tail k (length-append lines (next ∷ []) ∙ omega arith) in
-    (drop k front, sym whole ∙ ap (λ t. t ++ drop k front) first ∙ append_assoc lines (next ∷ []) (drop k front))
+    (drop k front, sym (take-append-drop k front) ∙ ap (λ t. t ++ drop k front) first ∙ append_assoc lines (next ∷ []) (drop k front))
 
 -- the fields are so many, one more, and others
 split_fields : (n : ℕ) (fields : List Field) → n < length fields → All IsField fields
@@ -96,28 +93,56 @@ reads_with_fields h fields is all = (
   append_assoc (start_of h) (flat_map print_field fields) (print_end lf) ∙ sym (printed (with_fields h fields) []),
 )
 
-pub exceeds_many : {text : List ℕ} → ResponseExceeds most_fields text → HasManyLines text
-exceeds_many {text} x =
-    let h = x.3 in
-    let split = split_fields most_fields h.fields x.5 x.4.0.fields in
+-- a head with more fields than a head may have
+pub record IsOver (h : ResponseHead) : Type 0 where
+  pub fields : List Field
+  pub byte : ℕ
+  pub tail : List ℕ
+  pub all : All IsField fields
+  pub count : length fields ≡ most_fields
+  pub in_line : IsInLine byte
+  pub whole : print_response h ++ [] ≡ (start_of h ++ flat_map print_field fields) ++ byte ∷ tail
+  pub some : 0 < length tail
+
+pub over : (h : ResponseHead) → IsResponseHead h → most_fields < length h.fields → IsOver h
+over h is more =
+    let split = split_fields most_fields h.fields more is.fields in
     let fields = take most_fields h.fields in
     let first = first_byte split.0 split.3 in
-    let lines = start_of h ++ flat_map print_field fields in
-    let tail = first.rest ++ (flat_map print_field split.1 ++ print_end h.last) in
-    let whole : x.0 ++ print_end lf ≡ lines ++ first.byte ∷ tail =
-    x.4.1 ∙ printed h []
-    ∙ ap (λ t. start_of h ++ (t ++ (print_end h.last ++ []))) (ap (flat_map print_field) split.2 ∙ flat_map-append print_field fields (split.0 ∷ split.1))
-    ∙ arranged (start_of h) (flat_map print_field fields) (print_field split.0) (flat_map print_field split.1) (print_end h.last) first.byte first.rest first.is in
-    let some : 0 < length tail =
-    omega (arith, length-append first.rest (flat_map print_field split.1 ++ print_end h.last), length-append (flat_map print_field split.1) (print_end h.last), some_end h.last) in
-    let cut = cut_last x.0 lines tail first.byte 10 some whole in
     record {
-      lines = lines;
-      next = first.byte;
-      rest = cut.0 ++ x.1;
-      is = x.2 ∙ ap (λ t. t ++ x.1) cut.1 ∙ append_assoc lines (first.byte ∷ cut.0) x.1;
-      head = with_fields h fields;
-      reads = reads_with_fields h fields x.4.0 (All-take IsField most_fields h.fields x.4.0.fields);
-      count = length-take-le most_fields h.fields (omega (arith, x.5));
+      fields = fields;
+      byte = first.byte;
+      tail = first.rest ++ (flat_map print_field split.1 ++ print_end h.last);
+      all = All-take IsField most_fields h.fields is.fields;
+      count = length-take-le most_fields h.fields (omega arith);
       in_line = first.in_line;
+      whole = printed h []
+          ∙ ap (λ t. start_of h ++ (t ++ (print_end h.last ++ []))) (ap (flat_map print_field) split.2 ∙ flat_map-append print_field fields (split.0 ∷ split.1))
+          ∙ arranged (start_of h) (flat_map print_field fields) (print_field split.0) (flat_map print_field split.1) (print_end h.last) first.byte first.rest first.is;
+      some = omega (arith, length-append first.rest (flat_map print_field split.1 ++ print_end h.last), length-append (flat_map print_field split.1) (print_end h.last), some_end h.last);
     }
+
+pub over_many : (text rest : List ℕ) (h : ResponseHead) → IsResponseHead h → (o : IsOver h)
+    → text ≡ (start_of h ++ flat_map print_field o.fields) ++ o.byte ∷ rest → HasManyLines text
+over_many text rest h is o text_is = record {
+  lines = start_of h ++ flat_map print_field o.fields;
+  next = o.byte;
+  rest = rest;
+  is = text_is;
+  head = with_fields h o.fields;
+  reads = reads_with_fields h o.fields is o.all;
+  last = refl;
+  count = o.count;
+  in_line = o.in_line;
+}
+
+pub exceeds_many : {text : List ℕ} → ResponseExceeds most_fields text → HasManyLines text
+exceeds_many {text} x =
+    let o = over x.3 x.4.0 x.5 in
+    let lines = start_of x.3 ++ flat_map print_field o.fields in
+    let whole : x.0 ++ print_end lf ≡ lines ++ o.byte ∷ o.tail = x.4.1 ∙ o.whole in
+    let longer : length lines < length x.0 =
+    omega (arith, ap length whole, length-append x.0 (print_end lf), length-append lines (o.byte ∷ o.tail), o.some) in
+    let cut = cut_at x.0 (print_end lf) lines o.tail o.byte longer whole in
+    over_many text (cut.0 ++ x.1) x.3 x.4.0 o
+    (x.2 ∙ ap (λ t. t ++ x.1) cut.1 ∙ append_assoc lines (o.byte ∷ cut.0) x.1)

@@ -34,6 +34,7 @@ pub record HasManyLines (text : List ℕ) : Type 0 where
   pub is : text ≡ lines ++ next ∷ rest
   pub head : ResponseHead
   pub reads : ReadsResponse (lines ++ print_end lf) head []
+  pub last : head.last ≡ lf
   pub count : length head.fields ≡ most_fields
   pub in_line : IsInLine next
 
@@ -51,4 +52,4 @@ pub record IsHeadCut (stream : List ℕ) : Type 0 where
   pub short : length stream < most_head
   pub none : HasNoResponse stream
   pub open_head : MayBecomeResponse stream
-  -- pub few : HasManyLines stream → ⊥
+  pub few : HasManyLines stream → ⊥

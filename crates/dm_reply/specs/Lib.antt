@@ -1,7 +1,9 @@
+pub mod Collected
 pub mod Content
 pub mod Faults
 pub mod Fields
 pub mod Head
+pub mod Lines
 pub mod Look
 pub mod Reader
 pub mod Received

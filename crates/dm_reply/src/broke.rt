@@ -2,6 +2,8 @@ ghost use Rattle.std.specs.Prelude.{◌≡◌};
 ghost use Rattle.dm_edge.specs.declared.fault.WireFault.{WireFault as OnWire};
 
 use dm_edge::WireFault;
+use dm_types::NoMemory;
+use std::alloc::AllocError;
 
 /// Why no whole reply of the plain form came.
 #[derive(Clone, Copy, Debug, PartialEq, Eq)]
@@ -44,5 +46,27 @@ impl From<WireFault> for Broke {
             WireFault::Timeout => Broke::Timeout,
             WireFault::NoMemory => Broke::NoMemory,
         }
+    }
+}
+
+impl From<NoMemory> for Broke {
+    ghost use Rattle.std.specs.Prelude.{◌≡◌};
+    ghost use Rattle.dm_reply.specs.declared.broke.Broke.TheVariants as broke;
+
+    ghost from_gives = { λ _ fault. fault ≡ broke.NoMemory };
+
+    fn from(_: NoMemory) -> Broke {
+        Broke::NoMemory
+    }
+}
+
+impl From<AllocError> for Broke {
+    ghost use Rattle.std.specs.Prelude.{◌≡◌};
+    ghost use Rattle.dm_reply.specs.declared.broke.Broke.TheVariants as broke;
+
+    ghost from_gives = { λ _ fault. fault ≡ broke.NoMemory };
+
+    fn from(_: AllocError) -> Broke {
+        Broke::NoMemory
     }
 }

@@ -2,6 +2,8 @@
 #![tactic(auto)]
 
 mod broke;
+#[cfg(test)]
+mod collecting;
 mod fields;
 mod look;
 mod reader;
@@ -9,3 +11,6 @@ mod receiving;
 
 pub use broke::{Broke, Got};
 pub use reader::ReplyReader;
+
+#[cfg(test)]
+mod tests;

@@ -1,6 +1,7 @@
 //! What the bytes that came so far are.
-ghost use Rattle.std.specs.Prelude.{◌≡◌, ◌≤◌, length};
-ghost use Rattle.dm_reply.specs.Head.{most_head};
+ghost use Rattle.std.specs.Prelude.{◌≡◌, ◌≤◌, ◌+◌, length, nat_lt, false};
+ghost use Rattle.dm_reply.specs.Head.{most_fields, most_head};
+ghost use Rattle.dm_reply.specs.Lines.{lines_begun};
 ghost use Rattle.dm_reply.specs.Look.{Finds};
 
 use crate::Broke;
@@ -45,7 +46,30 @@ pub fn look_at(front: &[u8]) -> Look
                 None => Look::Refused(Broke::BadForm),
             }
         }
+        Ok(Status::Partial) if begins_too_many(front) => Look::Refused(Broke::BadForm),
         Ok(Status::Partial) => Look::Open,
         Err(_) => Look::Refused(Broke::BadForm),
     }
+}
+
+/// Whether a field line begins that is one too many: the start line and the fields are the lines
+/// that aren't empty.
+fn begins_too_many(front: &[u8]) -> bool
+    ensures { result ≡ nat_lt (most_fields + 1) (lines_begun false front.now) }
+{
+    let mut lines = 0;
+    let mut in_line = false;
+    for byte in front {
+        match *byte {
+            b'\n' => in_line = false,
+            b'\r' => {}
+            _ => {
+                if !in_line {
+                    lines += 1;
+                }
+                in_line = true;
+            }
+        }
+    }
+    lines > MOST_FIELDS + 1
 }

@@ -2,6 +2,7 @@ ghost use Rattle.std.specs.Prelude.{◌≡◌, ◌<◌, ◌≤◌, ◌+◌, ℕ,
 ghost use Rattle.dm_types.specs.Faults.{HasCause, NoneFell};
 ghost use Rattle.dm_edge.specs.Wire.{stream_of};
 ghost use Rattle.dm_reply.specs.Content.{Reading, unread, HasRead, ContentSays, Advances, Fills, AfterFill};
+ghost use Rattle.dm_reply.specs.Fields.{most_content};
 ghost use Rattle.dm_reply.specs.Faults.{broke_kind};
 ghost use Rattle.dm_reply.specs.Reply.{HeadBroke};
 
@@ -60,6 +61,7 @@ impl ReplyReader {
         requires { self.old ≡ unread }
         ensures plain { W.tells → (W.told wire.old).given ≡ []
             → IfOk result (λ wanted. HasRead (W.told wire.new).given self.new []) }
+        ensures limit { IfOk result (λ wanted. wanted ≤ most_content) }
         ensures wanted { IfOk result (λ wanted. (self.new.wanted ≡ wanted) × (self.new.given ≡ 0) × (self.new.broke ≡ None)) }
         ensures broke { W.tells → (W.told wire.old).given ≡ []
             → IfErr result (HeadBroke (stream_of (W.told wire.new))) }
@@ -91,7 +93,7 @@ impl ReplyReader {
             → ContentSays (W.told wire.new) self.new result buf.new content }
         ensures advances { Advances self.old self.new result (length buf.old) }
         ensures ends { IfErr result (λ broke. self.new.broke ≡ Some broke) }
-        ensures repeats { IfSome self.old.broke (λ broke. result ≡ Err broke) }
+        ensures repeats { IfSome self.old.broke (λ broke. (result ≡ Err broke) × (self.new ≡ self.old) × (W.told wire.new ≡ W.told wire.old)) }
         ensures sent { W.tells → (W.told wire.new).sent ≡ (W.told wire.old).sent }
         ensures stays { (W.asked wire.new ≡ W.asked wire.old) × (W.origin wire.new ≡ W.origin wire.old) }
         ensures later { NoneFell (W.faults wire.old) (W.faults wire.new) }
@@ -139,11 +141,12 @@ impl ReplyReader {
         ensures cause { HasCause broke_kind (W.faults wire.old) (W.faults wire.new) result }
     {
         let room = least(self.wanted - self.given, buf.len());
+        let short = Broke::Short {
+            have: self.given,
+            wanted: self.wanted,
+        };
         match wire.receive(&mut buf[..room]) {
-            Ok(0) => Err(self.breaks(Broke::Short {
-                have: self.given,
-                wanted: self.wanted,
-            })),
+            Ok(0) => Err(self.breaks(short)),
             Ok(count) => {
                 self.given += count as u64;
                 Ok(Got::Bytes(count))

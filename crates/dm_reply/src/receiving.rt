@@ -3,6 +3,7 @@ ghost use Rattle.std.specs.Prelude.{◌≡◌, ◌≤◌, ℕ, [], length, take,
 ghost use Rattle.dm_types.specs.Faults.{HasCause};
 ghost use Rattle.dm_edge.specs.Wire.{stream_of};
 ghost use Rattle.dm_reply.specs.Faults.{broke_kind};
+ghost use Rattle.dm_reply.specs.Fields.{most_content};
 ghost use Rattle.dm_reply.specs.Head.{most_head};
 ghost use Rattle.dm_reply.specs.Received.{FindsHead};
 ghost use Rattle.dm_reply.specs.Reply.{HeadBroke};
@@ -24,7 +25,7 @@ pub struct Plain {
 /// byte, so there are at most as many as the buffer has bytes, and one more.
 pub fn receive_head<W: Wire>(wire: &mut W, buffer: &mut [u8]) -> Result<Plain, Broke>
     requires { length buffer.old ≡ most_head }
-    ensures bounds { IfOk result (λ head. (head.start ≤ head.end) × (head.end ≤ most_head)) }
+    ensures bounds { IfOk result (λ head. (head.start ≤ head.end) × (head.end ≤ most_head) × (head.wanted ≤ most_content)) }
     ensures found { W.tells → (W.told wire.old).given ≡ []
         → IfOk result (λ head. FindsHead (W.told wire.new).given buffer.new head) }
     ensures broke { W.tells → (W.told wire.old).given ≡ []
