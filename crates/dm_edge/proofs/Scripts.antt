@@ -1,5 +1,5 @@
 -- The scripts that a net has left are good.
-use Rattle.std.proofs.Common.{◌≡◌, ◌<◌, suc, List, ◌∷◌, length, subst, arith}
+use Rattle.std.proofs.Common.{◌≡◌, suc, List, ◌∷◌, subst, arith}
 use Rattle.std.specs.Prelude.{All}
 use Rattle.dm_edge.specs.declared.script.WireScript.{WireScript}
 use Rattle.dm_edge.specs.Script.{IsGood}

@@ -1,9 +1,6 @@
 -- Scripted wires and nets in memory, as contracts see them.
 use Rattle.std.specs.Prelude.{◌≡◌, ◌≢◌, ℕ, ◌<◌, ◌≤◌, ◌⊎◌, ◌==◌, min, cond, List, [], ◌∷◌, ◌++◌, length, take, drop, slice_get, All, Option, Some, None}
 use Rattle.std.specs.Option.{option_map_or}
-use Rattle.dm_types.specs.declared.address.Address.{Address}
-use Rattle.dm_types.specs.declared.item.ItemId.{ItemId}
-use Rattle.dm_types.specs.declared.item.Attempt.{Attempt}
 use Rattle.dm_edge.specs.declared.counts.NetCounts.{NetCounts}
 use Rattle.dm_edge.specs.declared.counts.WireCounts.{WireCounts}
 use Rattle.dm_edge.specs.declared.fault.NetFault.{NetFault}

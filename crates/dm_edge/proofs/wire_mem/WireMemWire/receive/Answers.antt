@@ -1,4 +1,4 @@
-use Rattle.std.proofs.Common.{◌≡◌, ◌∙◌, take, drop, min, length, ap, refl, sym, None}
+use Rattle.std.proofs.Common.{◌≡◌, ◌∙◌, take, drop, min, length, ap, None}
 use Rattle.dm_edge.specs.Script.{fault_at}
 use Rattle.std.specs.Prelude.{slice_get}
 use Rattle.std.specs.Option.{option_map_or}
