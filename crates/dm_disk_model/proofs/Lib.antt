@@ -1,2 +1,5 @@
 pub mod FileBytes
+pub mod FirmNames
+pub mod Images
 pub mod PendingNames
+pub mod Reaching

@@ -1,4 +1,6 @@
 pub mod Disk
 pub mod Faults
 pub mod File
+pub mod Firm
 pub mod Folder
+pub mod Moments
