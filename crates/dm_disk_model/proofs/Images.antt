@@ -1,10 +1,13 @@
 -- The images of a disk: the disk as it reads is one, each is made of one for each folder, and what a step leaves of them.
-use Rattle.std.proofs.Common.{◌≡◌, ◌≢◌, ◌↔◌, ℕ, ◌≤◌, List, length, take, Option, Some, None, refl, sym, ◌∙◌, ap, subst, arith}
+use Rattle.std.proofs.Common.{◌≡◌, ◌≢◌, ◌↔◌, ℕ, ◌≤◌, inl, inr, List, length, take, Option, Some, None, Result, Ok, Err, refl, sym, ◌∙◌, ap, subst, arith}
 use Rattle.std.specs.Option.{option_map}
 use Rattle.std.proofs.lemmas.List.{take_all}
 use Rattle.dm_disk_model.specs.File.{File, FileLeaves}
 use Rattle.dm_disk_model.specs.Folder.{Names, Folder, Contents, FolderLeaves, NameLeaves, FileSteps, Changes, Change, IsSoundFolder, names_of, names_after, contents_of, after_changes}
 use Rattle.dm_disk_model.specs.Disk.{DiskState, Image, MayLeave, IsSoundDisk, InArea, reading, folder_in}
+use Rattle.dm_disk_model.specs.Laws.{OtherStays, OthersLeaveSame, other_area}
+use Rattle.dm_disk_model.specs.Disk.{Done}
+use Rattle.dm_disk_model.specs.declared.place.DiskFault.{DiskFault}
 use Rattle.dm_disk_model.specs.declared.place.Area.{Area}
 use Rattle.dm_disk_model.specs.declared.place.Area.TheVariants.{State, Files}
 
@@ -34,17 +37,25 @@ as_read disk sound = record { state = folder_as_read disk.state sound.state; fil
 pub made_of_both : (disk : DiskState) (image : Image) → MayLeave disk image ↔ (FolderLeaves disk.state image.state × FolderLeaves disk.files image.files)
 made_of_both disk image = (λ left. (left.state, left.files), λ parts. record { state = parts.0; files = parts.1 })
 
-abbrev pub other_area : Area → Area
-other_area State = Files
-other_area Files = State
-
 -- a step in one folder leaves what the other may leave
-pub other_area_stays : (area : Area) (step : Folder → Folder → Type 0) (old new : DiskState) → InArea area step old new → folder_in (other_area area) new ≡ folder_in (other_area area) old
+pub other_area_stays : (area : Area) (step : Folder → Folder → Type 0) (old new : DiskState) → InArea area step old new → OtherStays area old new
 other_area_stays State step old new stepped = stepped.1
 other_area_stays Files step old new stepped = stepped.1
 
+-- the same of a call, whatever it answers
+pub other_stays : (area : Area) (step begun : Folder → Folder → Type 0) (result : Result (Unit {0}) DiskFault) (old new : DiskState) → Done (InArea area step) (InArea area begun) result old new → OtherStays area old new
+other_stays area step begun (Ok done) old new stepped = other_area_stays area step old new stepped
+other_stays area step begun (Err fault) old new (inl stepped) = other_area_stays area begun old new stepped
+other_stays area step begun (Err fault) old new (inr same) = ap (folder_in (other_area area)) same
+
+-- the same of a call that changes nothing where it fails
+pub other_stays_whole : (area : Area) (step : Folder → Folder → Type 0) (result : Result (Unit {0}) DiskFault) (old new : DiskState) → Done (InArea area step) (λ before after. after ≡ before) result old new → OtherStays area old new
+other_stays_whole area step (Ok done) old new stepped = other_area_stays area step old new stepped
+other_stays_whole area step (Err fault) old new (inl same) = ap (folder_in (other_area area)) same
+other_stays_whole area step (Err fault) old new (inr same) = ap (folder_in (other_area area)) same
+
 -- A step of one file changes no other file, under whichever name that survives.
-pub other_files : (old new : Folder) (name : List ℕ) (step : File → File → Type 0) → (taken : FileSteps name step old new) → (survive : ℕ) (other : List ℕ) (found : Option (List ℕ))
+other_files : (old new : Folder) (name : List ℕ) (step : File → File → Type 0) → (taken : FileSteps name step old new) → (survive : ℕ) (other : List ℕ) (found : Option (List ℕ))
     → names_after old survive other ≢ Some taken.number
     → NameLeaves new.file (names_after new survive other) found ↔ NameLeaves old.file (names_after old survive other) found
 other_files old new name step taken survive other found apart =
@@ -66,6 +77,9 @@ other_files old new name step taken survive other found apart =
         some : (f : Option (List ℕ)) → NameLeaves new.file (Some number) f ↔ NameLeaves old.file (Some number) f
         some None = (λ left. left, λ left. left)
         some (Some bytes) = (subst (λ (file : File). FileLeaves file bytes) is, subst (λ (file : File). FileLeaves file bytes) (sym is))
+
+pub others_leave_same : (old new : Folder) (name : List ℕ) (step : File → File → Type 0) → FileSteps name step old new → OthersLeaveSame name old new
+others_leave_same old new name step taken = record { number = taken.number; stands = taken.stands; others = λ survive other found apart. other_files old new name step taken survive other found apart }
 
 -- A change of names leaves the bytes of every file.
 pub files_stay : (old new : Folder) (change : Change) → Changes change old new → (number : ℕ) → new.file number ≡ old.file number

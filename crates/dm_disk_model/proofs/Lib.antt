@@ -3,3 +3,4 @@ pub mod FirmNames
 pub mod Images
 pub mod PendingNames
 pub mod Reaching
+pub mod Standing

@@ -3,4 +3,5 @@ pub mod Faults
 pub mod File
 pub mod Firm
 pub mod Folder
+pub mod Laws
 pub mod Moments
