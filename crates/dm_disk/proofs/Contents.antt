@@ -13,7 +13,7 @@ use Rattle.dm_disk.specs.Calls.{folder_after, in_folder, disk_after, written_fil
 use Rattle.dm_disk.specs.Look.{file_in, Shows, LaysIn, GrowsIn}
 use Rattle.dm_disk.proofs.Replay.{file_after_act, disk_after_more}
 
-written_is : (act : Act) (number file written at : ℕ) (bytes : List ℕ) (folder : Folder) → act ≡ Write written at bytes → file ≡ written
+pub written_is : (act : Act) (number file written at : ℕ) (bytes : List ℕ) (folder : Folder) → act ≡ Write written at bytes → file ≡ written
     → (folder_after number act folder).file file ≡ written_file at bytes (folder.file file)
 written_is act number file written at bytes folder is same =
     ap (λ (a : Act). (folder_after number a folder).file file) is

@@ -1,6 +1,10 @@
 pub mod Moments
 pub mod Looks
 pub mod Contents
+pub mod Held
+pub mod Picks
+pub mod Puts
+pub mod Taking
 pub mod Replay
 pub mod Listings
 pub mod Steps

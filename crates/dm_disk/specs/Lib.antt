@@ -5,3 +5,4 @@ pub mod Look
 pub mod Meter
 pub mod Given
 pub mod Memory
+pub mod Image

@@ -1,14 +1,29 @@
 -- The counts of a disk in memory, and which of its calls fail.
-use Rattle.std.specs.Prelude.{ℕ, ◌+◌, ◌-◌, ◌^◌, min, max, nat_le, Bool, false, if◌then◌else◌, Option, Some, None, Result, Ok, Err}
+use Rattle.std.specs.Prelude.{ℕ, ◌+◌, ◌-◌, ◌^◌, min, max, nat_le, Bool, false, List, if◌then◌else◌, Option, Some, None, Result, Ok, Err}
 use Rattle.dm_types.specs.declared.kinds.DiskKind.{DiskKind}
 use Rattle.dm_types.specs.declared.kinds.DiskKind.TheVariants.{Failed, Denied, NoSpace, NameTooLong}
 use Rattle.dm_disk_model.specs.declared.place.DiskFault.{DiskFault}
 use Rattle.dm_disk.specs.declared.meter.Meter.{Meter}
+use Rattle.dm_disk.specs.declared.failing.FailingCall.{FailingCall}
 use Rattle.dm_disk.specs.Failing.{listed_kind}
 
 -- a count after one more; at its last value it stays
 abbrev pub one_more : ℕ → ℕ
 one_more count = max count (min (count + 1) (2 ^ 64 - 1))
+
+-- no call was made
+abbrev pub new_meter : List FailingCall → Option ℕ → Meter
+new_meter failing stop_after = record {
+  failing = failing;
+  stop_after = stop_after;
+  made = 0;
+  failed = 0;
+  denied = 0;
+  no_space = 0;
+  name_too_long = 0;
+  far = 0;
+  starved = 0;
+}
 
 -- no call is made any more
 abbrev pub stopped : Option ℕ → ℕ → Bool

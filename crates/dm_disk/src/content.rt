@@ -85,7 +85,7 @@ fn shorter(left: u64, room: usize) -> usize
 }
 
 /// Puts the file's bytes from a place on into the window. Past the end stand zeros.
-fn show(calls: &[Call], area: Area, file: u64, from: u64, window: &mut [u8])
+pub(crate) fn show(calls: &[Call], area: Area, file: u64, from: u64, window: &mut [u8])
     requires ends { most_end calls.now < 2 ^ 63 }
     requires near { from + length window.old < 2 ^ 63 }
     ensures { Shows (file_in area file (disk_after calls.now)).bytes from window.new }

@@ -2,6 +2,7 @@ ghost use Rattle.std.specs.Prelude.{◌≡◌, ◌↔◌, ◌≤◌, ◌+◌, �
 
 use crate::content::{length_of, read_file};
 use crate::failing::FailList;
+use crate::image::{Pick, image_log};
 use crate::listing::list_names;
 use crate::log::Log;
 use crate::meter::Meter;
@@ -19,7 +20,9 @@ pub struct MemoryDisk {
 impl MemoryDisk {
     ghost use Rattle.std.specs.Prelude.{◌≡◌, [], IsOk, IfOk};
     ghost use Rattle.dm_disk.specs.Calls.{history_of};
-    ghost use Rattle.dm_disk.specs.Memory.{history_in, starved_in, IsFresh};
+    ghost use Rattle.dm_disk.specs.Memory.{history_in, held_in, starved_in, IsFresh};
+    ghost use Rattle.dm_disk_model.specs.Disk.{Image, MayLeave, reading};
+    ghost use Rattle.dm_disk.specs.Image.{HoldsPicked, HasSame};
 
     /// An empty disk. These calls of it fail, and from `stop_after` calls on every one.
     pub fn new(
@@ -28,18 +31,23 @@ impl MemoryDisk {
         stop_after: Option<u64>,
     ) -> Result<MemoryDisk, NoMemory> {
         Ok(MemoryDisk {
-            meter: Meter {
-                failing,
-                stop_after,
-                made: 0,
-                failed: 0,
-                denied: 0,
-                no_space: 0,
-                name_too_long: 0,
-                far: 0,
-                starved: 0,
-            },
+            meter: Meter::new(failing, stop_after),
             log: Log::new(alloc),
+        })
+    }
+
+    /// A disk that holds the picked image of this one, all of it durable, so that a crash leaves no
+    /// other. No call of it is to fail.
+    pub fn image(&self, alloc: Global, pick: Pick) -> Result<MemoryDisk, NoMemory>
+        ensures picked { IfOk result (λ disk. HoldsPicked pick (held_in self.now) (held_in disk)) }
+        ensures leaves { IfOk result (λ disk. MayLeave (held_in self.now) (reading (held_in disk))) }
+        ensures only { IfOk result (λ disk. (image : Image) → MayLeave (held_in disk) image → HasSame image (reading (held_in disk))) }
+        ensures fresh { IfOk result (IsFresh [] None) }
+    {
+        let log = image_log(alloc, &self.log.calls, pick)?;
+        Ok(MemoryDisk {
+            meter: Meter::new(Listed::new(alloc), None),
+            log,
         })
     }
 

@@ -1,6 +1,6 @@
 ghost use Rattle.std.specs.Prelude.{◌≡◌};
 ghost use Rattle.dm_types.specs.declared.kinds.DiskKind.TheVariants.{NoSpace};
-ghost use Rattle.dm_disk.specs.Meter.{one_more, stopped, due, answer_of, counted, begun, starved_once, refused_once};
+ghost use Rattle.dm_disk.specs.Meter.{new_meter, one_more, stopped, due, answer_of, counted, begun, starved_once, refused_once};
 
 use crate::failing::{FailList, listed_kind};
 use dm_disk_model::DiskFault;
@@ -25,6 +25,23 @@ pub(crate) struct Meter {
 }
 
 impl Meter {
+    /// No call was made.
+    pub fn new(failing: FailList, stop_after: Option<u64>) -> Meter
+        ensures { result ≡ new_meter failing stop_after }
+    {
+        Meter {
+            failing,
+            stop_after,
+            made: 0,
+            failed: 0,
+            denied: 0,
+            no_space: 0,
+            name_too_long: 0,
+            far: 0,
+            starved: 0,
+        }
+    }
+
     /// Begins a call: counts it, and its fault if it is to fail.
     pub fn begin(&mut self) -> Result<(), DiskFault>
         ensures fault { result ≡ answer_of (due self.old) }

@@ -3,4 +3,8 @@ pub mod Naming
 pub mod Places
 pub mod Reading
 pub mod FileBytes
+pub mod FirmNames
+pub mod Images
 pub mod PendingNames
+pub mod Reaching
+pub mod Standing

@@ -1,5 +1,8 @@
 pub mod Disk
 pub mod Faults
 pub mod File
+pub mod Firm
 pub mod Folder
 pub mod Names
+pub mod Laws
+pub mod Moments

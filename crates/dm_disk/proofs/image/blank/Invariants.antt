@@ -1,0 +1,8 @@
+use Rattle.std.proofs.Common.{◌≡◌, ◌⊎◌, ℕ, ◌<◌, ◌≤◌, length, get_or}
+use Rattle.dm_disk.proofs.image.blank.Given as goal
+
+abbrev pub invariant-loop-place : goal.invariant-loop-place
+invariant-loop-place l = record {
+  inside : (k : ℕ) → k < length l.bytes → l.at ≤ k → k < l.place → get_or l.bytes k 0 ≡ 0;
+  outside : (k : ℕ) → k < length l.bytes → ((k < l.at) ⊎ (l.place ≤ k)) → get_or l.bytes k 0 ≡ get_or l.initial.bytes k 0;
+}
