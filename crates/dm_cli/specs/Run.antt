@@ -5,11 +5,7 @@ use Rattle.dm_types.specs.declared.address.Address.{Address}
 use Rattle.dm_edge.specs.declared.fault.NetFault.{NetFault}
 use Rattle.dm_edge.specs.Wire.{Closed}
 use Rattle.dm_disk_model.specs.Disk.{DiskState}
-use Rattle.dm_words.specs.Name.{IsName}
 use Rattle.dm_words.specs.Command.{IsGet}
-use Rattle.dm_words.specs.declared.command.Command.{Command}
-use Rattle.dm_words.specs.declared.command.Command.TheVariants.{Get}
-use Rattle.dm_disk_model.specs.declared.place.Place.{Place}
 use Rattle.dm_request.specs.Fault.{IsNoAddress, IsRead}
 use Rattle.dm_request.specs.Request.{request_of}
 use Rattle.dm_cli.specs.declared.ending.Ending.{Ending}
@@ -20,14 +16,6 @@ use Rattle.dm_cli.specs.Get.{file_place, the_part, GetSays, LeavesOthers}
 pub record Explains (so : Ending → Type 0) : Type 0 where
   pub ending : Ending
   pub is : so ending
-
--- the command names a file as one may be named
-abbrev pub IsNamed : Command → Type 0
-IsNamed (Get name address) = IsName name.now
-
--- the file that a command brings
-abbrev pub file_of : Command → Place
-file_of (Get name address) = file_place name.now
 
 -- nothing was done, and no connection was made
 pub record DidNothing (old new : DiskState) (before after : List Closed) : Type 0 where

@@ -2,9 +2,9 @@ ghost use Rattle.std.specs.Prelude.{◌≡◌, ℕ, List, IfSome};
 ghost use Rattle.dm_types.specs.Faults.{NoneFell};
 ghost use Rattle.dm_disk_model.specs.Disk.{now};
 ghost use Rattle.dm_disk_model.specs.Names.{NeverStands, Throughout};
-ghost use Rattle.dm_words.specs.Command.{IsCommand, IsGet};
+ghost use Rattle.dm_words.specs.Command.{IsGet};
 ghost use Rattle.dm_cli.specs.Get.{file_place, NeverPartialOf};
-ghost use Rattle.dm_cli.specs.Run.{RunSays, Explains, Refused, IsNamed, file_of};
+ghost use Rattle.dm_cli.specs.Run.{RunSays, Explains, Refused};
 ghost use Rattle.dm_cli.specs.Print.{PrintsEnding};
 
 use crate::Ending;
@@ -14,7 +14,7 @@ use dm_disk_model::Disk;
 use dm_edge::{Clock, Net, Sink};
 use dm_request::{AddressFault, read_address};
 use dm_types::Text;
-use dm_words::{BadWords, Command, read_command};
+use dm_words::{BadWords, read_command};
 use std::alloc::Global;
 
 /// A run that is over: the status that the program ends with, and the disk that was handed in.
@@ -24,46 +24,26 @@ pub struct Ran<D> {
     pub disk: D,
 }
 
-/// Does what a command says.
-fn run_command<D: Disk, N: Net>(
-    alloc: Global,
-    command: Command<'_>,
-    disk: &mut D,
-    net: &mut N,
-) -> Ending
-    requires { IsNamed command }
-    ensures says { D.tells → N.tells → (words : List (List ℕ)) → IsCommand words command.entry
-        → RunSays words (now (D.history disk.old)) (now (D.history disk.new)) (D.faults disk.old) (D.faults disk.new)
-        (N.faults net.old) (N.faults net.new) (N.closed net.old) (N.closed net.new) result }
-    ensures partial { D.tells → N.tells → NeverStands (file_of command.entry) (now (D.history disk.old))
-        → Throughout (D.history disk.old) (D.history disk.new) (NeverPartialOf (file_of command.entry) (N.closed net.old) (N.closed net.new)) }
-    ensures disk_later { NoneFell (D.faults disk.old) (D.faults disk.new) }
-    ensures net_later { NoneFell (N.faults net.old) (N.faults net.new) }
-{
-    match command {
-        Command::Get { name, address } => match read_address(alloc, address) {
-            Ok(address) => get(alloc, disk, net, name, &address),
-            Err(AddressFault::NoMemory) => Ending::NoMemory,
-            Err(AddressFault::TooLong(_)) => Ending::BadAddress,
-            Err(AddressFault::NotUrl) => Ending::BadAddress,
-            Err(AddressFault::NotHttp) => Ending::BadAddress,
-        },
-    }
-}
-
 /// Does what the words say.
 fn run<D: Disk, N: Net>(alloc: Global, words: &[Text], disk: &mut D, net: &mut N) -> Ending
     ensures says { D.tells → N.tells
         → RunSays words.now (now (D.history disk.old)) (now (D.history disk.new)) (D.faults disk.old) (D.faults disk.new)
-        (N.faults net.old) (N.faults net.new) (N.closed net.old) (N.closed net.new) result }
+            (N.faults net.old) (N.faults net.new) (N.closed net.old) (N.closed net.new) result }
     ensures partial { D.tells → N.tells → (name address : List ℕ) → IsGet words.now name address → NeverStands (file_place name) (now (D.history disk.old))
         → Throughout (D.history disk.old) (D.history disk.new) (NeverPartialOf (file_place name) (N.closed net.old) (N.closed net.new)) }
     ensures disk_later { NoneFell (D.faults disk.old) (D.faults disk.new) }
     ensures net_later { NoneFell (N.faults net.old) (N.faults net.new) }
 {
-    match read_command(words) {
-        Ok(command) => run_command(alloc, command, disk, net),
-        Err(BadWords) => Ending::BadWords,
+    let command = match read_command(words) {
+        Ok(command) => command,
+        Err(BadWords) => return Ending::BadWords,
+    };
+    match read_address(alloc, command.address) {
+        Ok(address) => get(alloc, disk, net, command.name, &address),
+        Err(AddressFault::NoMemory) => Ending::NoMemory,
+        Err(AddressFault::TooLong(_)) => Ending::BadAddress,
+        Err(AddressFault::NotUrl) => Ending::BadAddress,
+        Err(AddressFault::NotHttp) => Ending::BadAddress,
     }
 }
 
@@ -103,14 +83,15 @@ pub fn run_words<D: Disk, N: Net, C: Clock, S: Sink>(
 pub fn refused(alloc: Global, words: &[Text]) -> Option<Ending>
     ensures { IfSome result (Refused words.now) }
 {
-    match read_command(words) {
-        Ok(Command::Get { address, .. }) => match read_address(alloc, address) {
-            Ok(_) => None,
-            Err(AddressFault::NoMemory) => None,
-            Err(AddressFault::TooLong(_)) => Some(Ending::BadAddress),
-            Err(AddressFault::NotUrl) => Some(Ending::BadAddress),
-            Err(AddressFault::NotHttp) => Some(Ending::BadAddress),
-        },
-        Err(BadWords) => Some(Ending::BadWords),
+    let command = match read_command(words) {
+        Ok(command) => command,
+        Err(BadWords) => return Some(Ending::BadWords),
+    };
+    match read_address(alloc, command.address) {
+        Ok(_) => None,
+        Err(AddressFault::NoMemory) => None,
+        Err(AddressFault::TooLong(_)) => Some(Ending::BadAddress),
+        Err(AddressFault::NotUrl) => Some(Ending::BadAddress),
+        Err(AddressFault::NotHttp) => Some(Ending::BadAddress),
     }
 }

@@ -6,7 +6,7 @@ mod name;
 mod part;
 mod printed;
 
-pub use command::{BadWords, Command, read_command};
+pub use command::{BadWords, Get, read_command};
 pub use name::{is_name, same_folded};
 pub use part::part_name;
 pub use printed::{

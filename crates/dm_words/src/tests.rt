@@ -20,7 +20,7 @@ fn the_words_of_get(rt: HostRuntime) -> Result<(), Fail> {
     assert!(rt;
         matches!(
             read_command(&words),
-            Ok(Command::Get {
+            Ok(Get {
                 name: b"hello.txt",
                 address: b"http://h/a"
             })
