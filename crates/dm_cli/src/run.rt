@@ -18,7 +18,7 @@ use dm_words::{BadWords, read_command};
 use std::alloc::Global;
 
 /// A run that is over: the status that the program ends with, and the disk that was handed in.
-#[derive(Debug)]
+#[derive(Debug, Drop)]
 pub struct Ran<D> {
     pub status: u8,
     pub disk: D,
