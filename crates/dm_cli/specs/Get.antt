@@ -13,7 +13,7 @@ use Rattle.dm_disk_model.specs.declared.place.Area.TheVariants.{Files}
 use Rattle.dm_disk_model.specs.declared.place.Place.{Place}
 use Rattle.dm_disk_model.specs.Folder.{names_of}
 use Rattle.dm_disk_model.specs.Disk.{DiskState, Image, History, now, bytes_at, MayLeave}
-use Rattle.dm_disk_model.specs.Names.{image_at}
+use Rattle.dm_disk_model.specs.Names.{image_at, LeavesJust}
 use Rattle.dm_words.specs.Name.{fold_case}
 use Rattle.dm_words.specs.Part.{part_name}
 use Rattle.dm_words.specs.Printed.{complete_line, interrupted_line}
@@ -62,6 +62,8 @@ pub record IsBrought (target : Place) (name : List ℕ) (old new : DiskState) (s
   pub free : bytes_at old target ≡ None
   pub file : bytes_at new target ≡ Some content
   pub line : printed ≡ complete_line (length content) name
+  -- a crash now leaves it so
+  pub durable : LeavesJust target content new
 
 -- the place has the reply's content, whole
 pub record HasWhole (target : Place) (disk : DiskState) (stream : List ℕ) : Type 0 where

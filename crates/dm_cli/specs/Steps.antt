@@ -6,6 +6,7 @@ use Rattle.dm_types.specs.declared.reason.Reason.{Reason}
 use Rattle.dm_types.specs.declared.reason.Reason.TheVariants as reason
 use Rattle.dm_disk_model.specs.declared.place.Place.{Place}
 use Rattle.dm_disk_model.specs.Disk.{DiskState, bytes_at}
+use Rattle.dm_disk_model.specs.Names.{LeavesJust}
 use Rattle.dm_reply.specs.declared.broke.Broke.{Broke}
 use Rattle.dm_reply.specs.declared.broke.Broke.TheVariants as broke
 use Rattle.dm_words.specs.Printed.{complete_line, interrupted_line}
@@ -42,7 +43,7 @@ EndsStopped (stopped.Disk kind) ending = ending ≡ DiskFailed kind
 
 -- What the last steps do with a part that holds this content, whole.
 abbrev pub FinishSays : Place → List ℕ → DiskState → DiskState → (DiskKind → ℕ) → (DiskKind → ℕ) → List ℕ → Ending → Type 0
-FinishSays target name old new before after content (Complete line) = (bytes_at new target ≡ Some content) × (line ≡ complete_line (length content) name)
+FinishSays target name old new before after content (Complete line) = (bytes_at new target ≡ Some content) × (line ≡ complete_line (length content) name) × LeavesJust target content new
 FinishSays target name old new before after content (DiskFailed kind) = Rose (before kind) (after kind) × (IsLeft target old new ⊎ (bytes_at new target ≡ Some content))
 FinishSays target name old new before after content NoMemory = IsLeft target old new
 FinishSays target name old new before after content _ = ⊥

@@ -7,10 +7,10 @@ use Rattle.dm_disk_model.specs.declared.place.DiskFault.{DiskFault}
 use Rattle.dm_disk_model.specs.File.{File, IsWritten, IsSynced}
 use Rattle.dm_disk_model.specs.Folder.{FileSteps}
 use Rattle.dm_disk_model.specs.Disk.{DiskState, History, Next, InArea, Stands, WriteStep, SyncStep, now, bytes_at, CreateStep, RemoveStep, RenameStep, SyncNamesStep}
-use Rattle.dm_disk_model.specs.Names.{IsSettled, NeverStands, LeavesNothing, LeavesNothingOr, Throughout}
+use Rattle.dm_disk_model.specs.Names.{IsSettled, NeverStands, LeavesNothing, LeavesNothingOr, LeavesJust, Throughout}
 use Rattle.dm_disk_model.proofs.Reading.{stepped_reads}
 use Rattle.dm_disk_model.proofs.Places.{in_folder, stands_from, create_reads, remove_reads, rename_reads, rename_others, rename_may, names_reads}
-use Rattle.dm_disk_model.proofs.Naming.{given_rename, given_names_synced, given_leaves, absent_leaves, throughout_start, throughout_next}
+use Rattle.dm_disk_model.proofs.Naming.{given_rename, given_names_synced, given_leaves, absent_leaves, just_published, throughout_start, throughout_next}
 use Rattle.dm_part.specs.Publish.{Moves}
 
 module _ (part target : Place) (one_area : target.area ≡ part.area) (differ : part.name ≢ target.name) where
@@ -70,3 +70,9 @@ stands_written place at bytes (Err fault) old new step = tt
 pub stands_synced : (place : Place) (result : Result (Unit {0}) DiskFault) (old new : DiskState) → SyncStep place result old new → OnOk result (Stands new place)
 stands_synced place (Ok done) old new step = step_stands place IsSynced old new step
 stands_synced place (Err fault) old new step = tt
+
+-- after Ok each crash leaves the published file
+pub durable_done : (part target : Place) (file : List ℕ) (result : Result (Unit {0}) DiskFault) (old mid new : DiskState) → target.area ≡ part.area → IsSettled part file old
+    → RenameStep part target (Ok tt) old mid → SyncNamesStep target.area result mid new → OnOk result (LeavesJust target file new)
+durable_done part target file (Ok done) old mid new one_area settled renamed synced = just_published part target file old mid new one_area settled renamed synced
+durable_done part target file (Err fault) old mid new one_area settled renamed synced = tt
