@@ -81,7 +81,12 @@ fn zeros_stand_between(rt: HostRuntime) -> Result<(), Fail> {
 fn a_name_is_listed_until_it_is_removed(rt: HostRuntime) -> Result<(), Fail> {
     let (mut disk, here) = start(rt.alloc())?;
     make(&mut disk, &here)?;
-    assert_eq!(rt; disk.names(rt.alloc(), Area::Files).map_err(|_| "no names")?.count(), 1);
+    assert_eq!(rt;
+        disk.names(rt.alloc(), Area::Files)
+            .map_err(|_| "no names")?
+            .count(),
+        1
+    );
     take_away(&mut disk, &here)?;
     assert_eq!(rt; disk.length(&here)?, None);
     assert_eq!(rt; disk.starved(), 0);
@@ -98,8 +103,14 @@ fn listed_and_stopped_calls_fail(rt: HostRuntime) -> Result<(), Fail> {
     })?;
     let mut disk = MemoryDisk::new(alloc, failing, Some(2))?;
     assert_eq!(rt; disk.sync_names(Area::State), Ok(()));
-    assert_eq!(rt; disk.sync_names(Area::State), Err(DiskFault(DiskKind::Denied)));
-    assert_eq!(rt; disk.sync_names(Area::State), Err(DiskFault(DiskKind::Failed)));
+    assert_eq!(rt;
+        disk.sync_names(Area::State),
+        Err(DiskFault(DiskKind::Denied))
+    );
+    assert_eq!(rt;
+        disk.sync_names(Area::State),
+        Err(DiskFault(DiskKind::Failed))
+    );
     Ok(())
 }
 
@@ -107,7 +118,10 @@ fn listed_and_stopped_calls_fail(rt: HostRuntime) -> Result<(), Fail> {
 fn a_range_that_ends_too_far_is_refused(rt: HostRuntime) -> Result<(), Fail> {
     let (mut disk, here) = start(rt.alloc())?;
     make(&mut disk, &here)?;
-    assert_eq!(rt; write(&mut disk, &here, (1 << 63) - 1, b"b"), Err(DiskFault(DiskKind::NoSpace)));
+    assert_eq!(rt;
+        write(&mut disk, &here, (1 << 63) - 1, b"b"),
+        Err(DiskFault(DiskKind::NoSpace))
+    );
     assert_eq!(rt; disk.length(&here)?, Some(0));
     Ok(())
 }

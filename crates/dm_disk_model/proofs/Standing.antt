@@ -1,5 +1,5 @@
 -- Whether something stands at a place, by the length that is told.
-use Rattle.std.proofs.Common.{◌≡◌, ℕ, List, length, Option, Some, None, IsSome, is_some, Bool, true, false, refl, sym, ◌∙◌, ap, subst}
+use Rattle.std.proofs.Common.{◌≡◌, ℕ, length, Option, Some, None, is_some, false, refl, sym, ◌∙◌, ap, subst}
 use Rattle.std.specs.Option.{option_map}
 use Rattle.std.proofs.lemmas.Bool.{false≢true}
 use Rattle.dm_disk_model.specs.Disk.{DiskState, History, now, Stands, StandsNot, bytes_at, folder_in}
@@ -26,8 +26,8 @@ pub stands_not_if_none : (disk : DiskState) (place : Place) → None ≡ option_
 stands_not_if_none disk place is =
     none_of (names_of (folder_in place.area disk) place.name)
     (sym (option_is (λ number. ((folder_in place.area disk).file number).bytes) (names_of (folder_in place.area disk) place.name))
-        ∙ sym (option_is length (bytes_at disk place))
-        ∙ ap is_some (sym is))
+    ∙ sym (option_is length (bytes_at disk place))
+    ∙ ap is_some (sym is))
 
 -- the same after the call that told it
 pub stands_told : (old new : History) (place : Place) (found : Option ℕ) (long : ℕ) → new ≡ old → found ≡ option_map length (bytes_at (now old) place) → found ≡ Some long → Stands (now new) place
