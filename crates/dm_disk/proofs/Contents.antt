@@ -1,15 +1,15 @@
 -- What a call does to the bytes that are shown of one file.
-use Rattle.std.proofs.Common.{◌≡◌, ◌⊎◌, inl, inr, ⊎_elim, ℕ, ◌+◌, ◌-◌, ◌<◌, ◌≤◌, List, length, take, get_or, refl, sym, ◌∙◌, ap, subst, arith}
+use Rattle.std.proofs.Common.{◌≡◌, ◌⊎◌, inl, inr, ⊎_elim, ℕ, ◌+◌, ◌-◌, ◌<◌, ◌≤◌, List, length, take, get_or, sym, ◌∙◌, ap, subst, arith}
 use Rattle.std.proofs.lemmas.Bool.{cases_lt, eq-eqb, cond-true}
 use Rattle.dm_disk_model.specs.File.{File}
 use Rattle.dm_disk_model.specs.Folder.{Folder}
-use Rattle.dm_disk_model.specs.Disk.{DiskState, folder_in}
+use Rattle.dm_disk_model.specs.Disk.{DiskState}
 use Rattle.dm_disk_model.specs.declared.place.Area.{Area}
 use Rattle.dm_disk_model.proofs.FileBytes.{overwrite_before, overwrite_within, overwrite_after}
 use Rattle.dm_disk.specs.declared.call.Call.{Call}
 use Rattle.dm_disk.specs.declared.call.Act.{Act}
 use Rattle.dm_disk.specs.declared.call.Act.TheVariants.{Write}
-use Rattle.dm_disk.specs.Calls.{folder_after, in_folder, disk_after, written_file}
+use Rattle.dm_disk.specs.Calls.{folder_after, disk_after, written_file}
 use Rattle.dm_disk.specs.Look.{file_in, Shows, LaysIn, GrowsIn}
 use Rattle.dm_disk.proofs.Replay.{file_after_act, disk_after_more}
 

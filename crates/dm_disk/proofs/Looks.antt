@@ -1,6 +1,5 @@
 -- Where the file of a name was before a call, by kind of call.
-use Rattle.std.proofs.Common.{◌≡◌, ◌≢◌, ℕ, ◌+◌, ◌-◌, ◌<◌, ◌≤◌, List, length, take, get_or, Option, Some, None, refl, sym, ◌∙◌, ap, subst, arith}
-use Rattle.std.proofs.lemmas.List.{take_all}
+use Rattle.std.proofs.Common.{◌≡◌, ◌≢◌, ℕ, ◌+◌, ◌-◌, ◌<◌, ◌≤◌, List, length, take, get_or, Option, Some, None, sym, ◌∙◌, ap, arith}
 use Rattle.dm_disk_model.specs.Folder.{Names, Folder, names_of, with_name}
 use Rattle.dm_disk_model.specs.Disk.{folder_in}
 use Rattle.dm_disk_model.specs.declared.place.Area.{Area}
@@ -9,7 +8,7 @@ use Rattle.dm_disk.specs.declared.call.Call.{Call}
 use Rattle.dm_disk.specs.declared.call.Act.{Act}
 use Rattle.dm_disk.specs.declared.call.Act.TheVariants.{Create, Rename, Remove}
 use Rattle.dm_disk.specs.declared.find.Back.{Back}
-use Rattle.dm_disk.specs.Calls.{folder_after, in_folder, disk_after}
+use Rattle.dm_disk.specs.Calls.{folder_after, disk_after}
 use Rattle.dm_disk.specs.Look.{file_at, LooksBack}
 use Rattle.dm_disk.proofs.Replay.{names_after_act, names_acted, disk_after_more}
 

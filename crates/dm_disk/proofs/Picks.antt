@@ -1,8 +1,8 @@
 -- The picked names, and the least bytes of a file, call by call.
-use Rattle.std.proofs.Common.{◌≡◌, ◌≢◌, ◌⊎◌, inl, inr, ⊎_elim, ℕ, zero, suc, ◌+◌, ◌-◌, ◌<◌, ◌≤◌, Bool, true, false, cond, ◌&&◌, List, [], ◌∷◌, length, take, get_or, refl, sym, ◌∙◌, ap, subst, arith}
-use Rattle.std.proofs.lemmas.Bool.{cases_lt, false≢true, cond-true, cond-false, eq-eqb}
+use Rattle.std.proofs.Common.{◌≡◌, ◌≢◌, ◌⊎◌, inl, inr, ⊎_elim, ℕ, zero, suc, ◌+◌, ◌-◌, ◌<◌, ◌≤◌, true, false, cond, ◌&&◌, List, [], ◌∷◌, length, take, get_or, refl, sym, ◌∙◌, ap, subst, arith}
+use Rattle.std.proofs.lemmas.Bool.{cases_lt, false≢true, cond-false}
 use Rattle.std.proofs.lemmas.Option.{get_or_from_slice_get}
-use Rattle.dm_disk_model.specs.File.{File, IsClean, synced_file, empty_file}
+use Rattle.dm_disk_model.specs.File.{File, synced_file, empty_file}
 use Rattle.dm_disk_model.specs.Folder.{Names, Folder, names_of}
 use Rattle.dm_disk_model.specs.Disk.{DiskState, folder_in}
 use Rattle.dm_disk_model.specs.declared.place.Area.{Area}
@@ -11,7 +11,7 @@ use Rattle.dm_disk_model.proofs.FileBytes.{overwrite_before, overwrite_after}
 use Rattle.dm_disk.specs.declared.call.Call.{Call}
 use Rattle.dm_disk.specs.declared.call.Act.{Act}
 use Rattle.dm_disk.specs.declared.call.Act.TheVariants.{Create, Write, Sync, Rename, Remove, SyncNames}
-use Rattle.dm_disk.specs.Calls.{folder_after, in_folder, disk_after, most_end, written_file, empty_disk}
+use Rattle.dm_disk.specs.Calls.{folder_after, in_folder, disk_after, most_end, empty_disk}
 use Rattle.dm_disk.specs.Look.{file_in}
 use Rattle.dm_disk.specs.Image.{IsLeastOf, LeastGoesOn, IsSyncAt, syncs, syncs_names, same_area}
 use Rattle.dm_disk.proofs.Contents.{written_is}
@@ -67,8 +67,8 @@ names_synced_before calls i call area names lt is not so_far =
     let was : Folder = folder_in area (disk_after (take i calls)) in
     so_far
     ∙ sym (ap (λ (disk : DiskState). (folder_in area disk).synced) (disk_after_more calls i call lt is)
-        ∙ synced_call i area call.area call.act (disk_after (take i calls))
-        ∙ cond-false (syncs_names area call) (names_of was) was.synced not)
+    ∙ synced_call i area call.area call.act (disk_after (take i calls))
+    ∙ cond-false (syncs_names area call) (names_of was) was.synced not)
 
 -- a write on a file whose least bytes are known
 pub least_written : (act : Act) (number file written at : ℕ) (piece old new : List ℕ) → act ≡ Write written at piece → file ≡ written → length new ≡ length old
@@ -77,24 +77,24 @@ pub least_written : (act : Act) (number file written at : ℕ) (piece old new : 
     → LeastGoesOn act number file old new
 least_written act number file written at piece old new is same long inside outside folder least =
     subst (λ (after : File). IsLeastOf after new) (sym (written_is act number file written at piece folder is same)) (record {
-        long = long ∙ least.long;
-        clean = λ i clean.
-            let lt : i < length old = let below = clean.below in let l = least.long in omega (arith, below, l) in
-            let kept = least.clean i (record { below = clean.below; untouched = clean.untouched.1 }) in
-            ⊎_elim
-            (λ (front : i < at). outside i lt (inl front) ∙ kept ∙ sym (overwrite_before was.bytes at piece i front))
-            (λ (back : at + length piece ≤ i). outside i lt (inr back) ∙ kept ∙ sym (overwrite_after was.bytes at piece i back))
-            clean.untouched.0;
-        zeros = λ i below not.
-            let lt : i < length old = let l = least.long in omega (arith, below, l) in
-            ⊎_elim
-            (λ (front : i < at). outside i lt (inl front) ∙ least.zeros i below (λ clean. not (record { below = clean.below; untouched = (inl front, clean.untouched) })))
-            (λ (up : at ≤ i).
-                ⊎_elim
-                (λ (here : i < at + length piece). inside i lt up here)
-                (λ (back : at + length piece ≤ i). outside i lt (inr back) ∙ least.zeros i below (λ clean. not (record { below = clean.below; untouched = (inr back, clean.untouched) })))
-                (cases_lt i (at + length piece)))
-            (cases_lt i at);
+      long = long ∙ least.long;
+      clean = λ i clean.
+          let lt : i < length old = let below = clean.below in let l = least.long in omega (arith, below, l) in
+          let kept = least.clean i (record { below = clean.below; untouched = clean.untouched.1 }) in
+          ⊎_elim
+          (λ (front : i < at). outside i lt (inl front) ∙ kept ∙ sym (overwrite_before was.bytes at piece i front))
+          (λ (back : at + length piece ≤ i). outside i lt (inr back) ∙ kept ∙ sym (overwrite_after was.bytes at piece i back))
+          clean.untouched.0;
+      zeros = λ i below not.
+          let lt : i < length old = let l = least.long in omega (arith, below, l) in
+          ⊎_elim
+          (λ (front : i < at). outside i lt (inl front) ∙ least.zeros i below (λ clean. not (record { below = clean.below; untouched = (inl front, clean.untouched) })))
+          (λ (up : at ≤ i).
+          ⊎_elim
+          (λ (here : i < at + length piece). inside i lt up here)
+          (λ (back : at + length piece ≤ i). outside i lt (inr back) ∙ least.zeros i below (λ clean. not (record { below = clean.below; untouched = (inr back, clean.untouched) })))
+          (cases_lt i (at + length piece)))
+          (cases_lt i at);
     })
   where
     was : File
@@ -109,6 +109,7 @@ least_empty area file bytes none = subst (λ (xs : List ℕ). IsLeastOf (file_in
   where
     empty : IsLeastOf empty_file []
     empty = record { long = refl; clean = λ i clean. refl; zeros = λ i below not. refl }
+
     by : (a : Area) → IsLeastOf (file_in a file empty_disk) []
     by State = empty
     by Files = empty
@@ -127,8 +128,8 @@ pub least_more : (calls : List Call) (i : ℕ) (call : Call) (area : Area) (file
 least_more calls i call area file old new lt is own goes_on least =
     subst (λ (disk : DiskState). IsLeastOf (file_in area file disk) new) (sym (disk_after_more calls i call lt is))
     (subst (λ (a : Area). IsLeastOf (file_in area file (in_folder a (folder_after i call.act) (disk_after (take i calls)))) new) own
-        (subst (λ (folder : Folder). IsLeastOf (folder.file file) new) (sym (folder_in_same area (folder_after i call.act) (disk_after (take i calls))))
-            (goes_on (folder_in area (disk_after (take i calls))) least)))
+    (subst (λ (folder : Folder). IsLeastOf (folder.file file) new) (sym (folder_in_same area (folder_after i call.act) (disk_after (take i calls))))
+    (goes_on (folder_in area (disk_after (take i calls))) least)))
 
 -- a sync of the file
 pub least_synced : (calls : List Call) (i : ℕ) (call : Call) (area : Area) (file : ℕ) (bytes : List ℕ) → i < length calls → call ≡ get_or calls i call
@@ -138,9 +139,9 @@ least_synced calls i call area file bytes lt is sync read =
     let was : Folder = folder_in area (disk_after (take i calls)) in
     subst (λ (disk : DiskState). IsLeastOf (file_in area file disk) bytes) (sym (disk_after_more calls i call lt is))
     (subst (λ (c : Call). IsLeastOf (file_in area file (in_folder c.area (folder_after i c.act) (disk_after (take i calls)))) bytes) (sym sync)
-        (subst (λ (folder : Folder). IsLeastOf (folder.file file) bytes) (sym (folder_in_same area (folder_after i (Sync file)) (disk_after (take i calls))))
-            (subst (λ (after : File). IsLeastOf after bytes) (sym (with_file_same was.file file (synced_file (was.file file))))
-                (subst (λ (xs : List ℕ). IsLeastOf (synced_file (was.file file)) xs) (sym read) (least_of_synced (was.file file))))))
+    (subst (λ (folder : Folder). IsLeastOf (folder.file file) bytes) (sym (folder_in_same area (folder_after i (Sync file)) (disk_after (take i calls))))
+    (subst (λ (after : File). IsLeastOf after bytes) (sym (with_file_same was.file file (synced_file (was.file file))))
+    (subst (λ (xs : List ℕ). IsLeastOf (synced_file (was.file file)) xs) (sym read) (least_of_synced (was.file file))))))
 
 pub least_synced_at : (calls : List Call) (count : ℕ) (area : Area) (file : ℕ) (bytes : List ℕ) → 0 < count → count ≤ length calls → IsSyncAt calls area file (count - 1)
     → bytes ≡ (file_in area file (disk_after (take (count - 1) calls))).bytes

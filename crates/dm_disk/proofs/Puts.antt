@@ -1,18 +1,17 @@
 -- A folder that is filled file by file.
-use Rattle.std.proofs.Common.{◌≡◌, ◌≢◌, ◌⊎◌, inl, inr, ⊎_elim, ℕ, ◌+◌, ◌-◌, ◌<◌, ◌≤◌, List, [], ◌∷◌, ◌++◌, length, take, drop, get_or, Option, Some, None, IsSome, refl, sym, ◌∙◌, ap, subst, arith}
+use Rattle.std.proofs.Common.{◌≡◌, ◌≢◌, ⊎_elim, ℕ, ◌+◌, List, [], ◌∷◌, ◌++◌, length, Option, Some, None, refl, sym, ◌∙◌, ap, subst, arith}
 use Rattle.std.specs.Option.{option_map}
 use Rattle.std.proofs.lemmas.List.{drop_all, append-nil}
-use Rattle.std.proofs.lemmas.Option.{none-some, same_Some}
 use Rattle.dm_disk_model.specs.File.{File, empty_file, synced_file, overwrite}
-use Rattle.dm_disk_model.specs.Folder.{Names, Folder, Created, names_of, contents_of, after_change, with_name, EachPrefix}
+use Rattle.dm_disk_model.specs.Folder.{Names, Folder, Created, names_of, contents_of, after_change}
 use Rattle.dm_disk_model.specs.Disk.{DiskState, folder_in}
 use Rattle.dm_disk_model.specs.Laws.{other_area}
 use Rattle.dm_disk_model.specs.declared.place.Area.{Area}
 use Rattle.dm_disk_model.specs.declared.place.Area.TheVariants.{State, Files}
 use Rattle.dm_disk_model.proofs.PendingNames.{each_now, names_more, with_name_same, with_name_other, had_created}
 use Rattle.dm_disk.specs.declared.call.Call.{Call}
-use Rattle.dm_disk.specs.declared.call.Act.TheVariants.{Create, Write, Sync, SyncNames}
-use Rattle.dm_disk.specs.Calls.{with_file, written_file, folder_after, in_folder, disk_after}
+use Rattle.dm_disk.specs.declared.call.Act.TheVariants.{Create, Write, Sync}
+use Rattle.dm_disk.specs.Calls.{written_file, folder_after, in_folder, disk_after}
 use Rattle.dm_disk.specs.SoundCalls.{AreBelow, IsMade, made_after}
 use Rattle.dm_disk.specs.Image.{IsSettled, AreSettled, Puts}
 use Rattle.dm_disk.proofs.Replay.{with_file_same, with_file_other, disk_after_push, folder_in_same}
@@ -115,8 +114,8 @@ puts calls made wrote synced area name bytes is_made is_wrote is_synced =
     let below = each_now was (AreBelow number) (made_in area calls).below in
     subst (λ (disk : DiskState). Puts area name bytes (disk_after calls) disk) (sym (filled_disk calls made wrote synced area name bytes is_made is_wrote is_synced))
     (record {
-        here = subst (λ (f : Folder). contents_of f name ≡ Some bytes) (sym (folder_in_same area fill (disk_after calls))) (filled_here number name bytes was);
-        others = λ other apart. subst (λ (f : Folder). contents_of f other ≡ contents_of was other) (sym (folder_in_same area fill (disk_after calls))) (filled_others number name bytes was below other apart);
-        settled = λ settled. subst AreSettled (sym (folder_in_same area fill (disk_after calls))) (filled_settled number name bytes was below settled);
-        beside = beside area fill (disk_after calls);
+      here = subst (λ (f : Folder). contents_of f name ≡ Some bytes) (sym (folder_in_same area fill (disk_after calls))) (filled_here number name bytes was);
+      others = λ other apart. subst (λ (f : Folder). contents_of f other ≡ contents_of was other) (sym (folder_in_same area fill (disk_after calls))) (filled_others number name bytes was below other apart);
+      settled = λ settled. subst AreSettled (sym (folder_in_same area fill (disk_after calls))) (filled_settled number name bytes was below settled);
+      beside = beside area fill (disk_after calls);
     })

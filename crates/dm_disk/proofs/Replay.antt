@@ -1,9 +1,9 @@
 -- What one call more leaves of a disk, of its names and of one file.
-use Rattle.std.proofs.Common.{◌≡◌, ◌≢◌, ◌⊎◌, inl, inr, ⊎_elim, ℕ, ◌+◌, ◌<◌, ◌≤◌, max, Bool, true, false, cond, eqb, List, [], ◌∷◌, ◌++◌, length, take, get_or, zero, suc, Option, Some, None, refl, sym, ◌∙◌, ap, subst, arith, zero-add}
-use Rattle.std.proofs.lemmas.Bool.{cases_lt, eqb-true, eqb-false, eq-eqb, ne_eqb, cond-true, cond-false, cases_Bool}
-use Rattle.std.proofs.lemmas.List.{take_more, take-append-le, take_all, length_push, length-take-le}
+use Rattle.std.proofs.Common.{◌≡◌, ◌≢◌, ◌⊎◌, inl, inr, ℕ, ◌+◌, ◌<◌, ◌≤◌, max, true, false, cond, eqb, List, [], ◌∷◌, ◌++◌, length, take, get_or, zero, suc, refl, sym, ◌∙◌, ap, arith, zero-add}
+use Rattle.std.proofs.lemmas.Bool.{eqb-true, eq-eqb, ne_eqb, cond-true, cond-false, cases_Bool}
+use Rattle.std.proofs.lemmas.List.{take_more, length-take-le}
 use Rattle.dm_disk_model.specs.File.{File, empty_file, synced_file}
-use Rattle.dm_disk_model.specs.Folder.{Names, Change, Created, Renamed, Removed, Folder, names_of, after_change}
+use Rattle.dm_disk_model.specs.Folder.{Names, Created, Renamed, Removed, Folder, names_of, after_change}
 use Rattle.dm_disk_model.specs.Disk.{DiskState, InArea, folder_in}
 use Rattle.dm_disk_model.specs.declared.place.Area.{Area}
 use Rattle.dm_disk_model.specs.declared.place.Area.TheVariants.{State, Files}

@@ -1,14 +1,14 @@
 -- What each call that is recorded does, as a step of the disk.
-use Rattle.std.proofs.Common.{◌≡◌, ◌≢◌, ℕ, ◌+◌, ◌<◌, List, [], ◌∷◌, ◌++◌, length, Some, Ok, refl, sym, ◌∙◌, subst, arith}
+use Rattle.std.proofs.Common.{◌≡◌, ℕ, List, [], ◌∷◌, ◌++◌, length, Some, Ok, refl, sym, subst, arith}
 use Rattle.dm_disk_model.specs.File.{File, IsWritten, IsSynced, empty_file, synced_file}
-use Rattle.dm_disk_model.specs.Folder.{Names, Folder, Created, Renamed, Removed, Creates, Changes, SyncsNames, FileSteps, EachPrefix, names_of}
-use Rattle.dm_disk_model.specs.Disk.{DiskState, Next, folder_in, InArea, CreateStep, WriteStep, SyncStep, RenameStep, RemoveStep, SyncNamesStep}
+use Rattle.dm_disk_model.specs.Folder.{Folder, Renamed, Removed, Creates, Changes, SyncsNames, FileSteps, names_of}
+use Rattle.dm_disk_model.specs.Disk.{Next, folder_in, CreateStep, WriteStep, SyncStep, RenameStep, RemoveStep, SyncNamesStep}
 use Rattle.dm_disk_model.specs.declared.place.Area.{Area}
 use Rattle.dm_disk_model.specs.declared.place.Area.TheVariants.{State, Files}
 use Rattle.dm_disk_model.specs.declared.place.Place.{Place}
 use Rattle.dm_disk.specs.declared.call.Call.{Call}
 use Rattle.dm_disk.specs.declared.call.Act.TheVariants.{Create, Write, Sync, Rename, Remove, SyncNames}
-use Rattle.dm_disk.specs.Calls.{folder_after, disk_after, history_of, with_file, written_file}
+use Rattle.dm_disk.specs.Calls.{folder_after, disk_after, history_of, written_file}
 use Rattle.dm_disk.specs.SoundCalls.{IsMade, made_after}
 use Rattle.dm_disk.proofs.Moments.{pushed_to}
 use Rattle.dm_disk.proofs.Replay.{in_area, with_file_same, with_file_other}

@@ -1,5 +1,5 @@
 -- One folder of an image is taken, name by name.
-use Rattle.std.proofs.Common.{◌≡◌, ◌≢◌, ◌⊎◌, inl, inr, ⊎_elim, ℕ, ◌+◌, ◌<◌, ◌≤◌, Bool, true, false, List, [], ◌∷◌, ◌++◌, length, take, get_or, Option, Some, None, IsSome, is_some, refl, sym, ◌∙◌, ap, subst, arith}
+use Rattle.std.proofs.Common.{◌≡◌, ◌≢◌, ◌⊎◌, inl, inr, ⊎_elim, ℕ, ◌+◌, ◌<◌, ◌≤◌, Bool, true, false, List, [], ◌∷◌, ◌++◌, length, take, get_or, Option, Some, None, is_some, refl, sym, ◌∙◌, ap, subst, arith}
 use Rattle.std.specs.Prelude.{Contains}
 use Rattle.std.specs.Option.{option_map}
 use Rattle.std.specs.Str.{bytes_eq}
@@ -9,7 +9,6 @@ use Rattle.std.proofs.lemmas.List.Elements.{Contains-push, Contains-push_cases, 
 use Rattle.std.proofs.lemmas.Option.{none-some}
 use Rattle.std.proofs.lemmas.Slice.Eq.{bytes_eq-Decides}
 use Rattle.std.specs.Bool.{Decides}
-use Rattle.dm_disk_model.specs.File.{File}
 use Rattle.dm_disk_model.specs.Folder.{Names, Folder, Lists, names_of, contents_of}
 use Rattle.dm_disk_model.specs.Disk.{DiskState, folder_in}
 use Rattle.dm_disk_model.specs.Laws.{other_area}
@@ -39,9 +38,9 @@ pub record IsTaking (pick : Pick) (from : Folder) (area : Area) (names : List (L
 pub nothing_taken : (pick : Pick) (from : Folder) (area : Area) (names : List (List ℕ)) (disk : DiskState) → IsTaking pick from area names 0 disk disk
 nothing_taken pick from area names disk = record {
   here = λ bare. record {
-      have = λ name has. let lt = has.1 in absurd (omega (arith, lt));
-      none = λ name not. ap (option_map (λ number. ((folder_in area disk).file number).bytes)) (bare name);
-      settled = λ name number has. absurd (none-some number (sym (bare name) ∙ has));
+    have = λ name has. let lt = has.1 in absurd (omega (arith, lt));
+    none = λ name not. ap (option_map (λ number. ((folder_in area disk).file number).bytes)) (bare name);
+    settled = λ name number has. absurd (none-some number (sym (bare name) ∙ has));
   };
   beside = refl;
 }
@@ -61,33 +60,37 @@ one_taken pick from area names bound first old new name bytes number lt is named
   here = λ bare.
       let taking = so_far.here bare in
       record {
-          have = λ other has. ⊎_elim
-              (λ (same : other ≡ name). here_is other same)
-              (λ (apart : other ≢ name).
-                  subst (λ (found : Option (List ℕ)). NamePicked pick from.file (picked_names pick from other) found) (sym (puts.others other apart))
-                  (taking.have other (before other apart has)))
-              (same_or_apart other name);
-          none = λ other not.
-              puts.others other (λ (same : other ≡ name). not (is_last other same)) ∙ taking.none other (λ has. not (is_kept other has));
-          settled = puts.settled taking.settled;
+        have = λ other has. ⊎_elim
+            (λ (same : other ≡ name). here_is other same)
+            (λ (apart : other ≢ name).
+            subst (λ (found : Option (List ℕ)). NamePicked pick from.file (picked_names pick from other) found) (sym (puts.others other apart))
+            (taking.have other (before other apart has)))
+            (same_or_apart other name);
+        none = λ other not.
+            puts.others other (λ (same : other ≡ name). not (is_last other same)) ∙ taking.none other (λ has. not (is_kept other has));
+        settled = puts.settled taking.settled;
       };
   beside = puts.beside ∙ so_far.beside;
 }
   where
     more : take (bound + 1) names ≡ take bound names ++ name ∷ []
     more = take_more names bound name lt ∙ ap (λ (n : List ℕ). take bound names ++ n ∷ []) (sym is)
+
     here_is : (other : List ℕ) → other ≡ name → NamePicked pick from.file (picked_names pick from other) (contents_of (folder_in area new) other)
     here_is other same =
         subst (λ (n : List ℕ). NamePicked pick from.file (picked_names pick from n) (contents_of (folder_in area new) n)) (sym same)
         (subst (λ (found : Option ℕ). NamePicked pick from.file found (contents_of (folder_in area new) name)) (sym named)
-            (subst (λ (found : Option (List ℕ)). NamePicked pick from.file (Some number) found) (sym puts.here) picked))
+        (subst (λ (found : Option (List ℕ)). NamePicked pick from.file (Some number) found) (sym puts.here) picked))
+
     before : (other : List ℕ) → other ≢ name → Contains (take (bound + 1) names) other → Contains (take bound names) other
     before other apart has =
         ⊎_elim (λ old_has. old_has) (λ (e : name ≡ other). absurd (apart (sym e)))
         (Contains-push_cases (take bound names) name other (subst (λ (xs : List (List ℕ)). Contains xs other) more has))
+
     is_last : (other : List ℕ) → other ≡ name → Contains (take (bound + 1) names) other
     is_last other same =
         subst (λ (xs : List (List ℕ)). Contains xs other) (sym more) (subst (λ (n : List ℕ). Contains (take bound names ++ name ∷ []) n) (sym same) (Contains-push (take bound names) name))
+
     is_kept : (other : List ℕ) → Contains (take bound names) other → Contains (take (bound + 1) names) other
     is_kept other has = subst (λ (xs : List (List ℕ)). Contains xs other) (sym more) (Contains-append_left (take bound names) (name ∷ []) other has)
 
@@ -98,23 +101,27 @@ pub all_taken : (pick : Pick) (from named : DiskState) (area : Area) (names : Li
     → IsTaken pick area from first (disk_after later)
 all_taken pick from named area names bound first calls later all same lists taking is =
     subst (λ (disk : DiskState). IsTaken pick area from first disk) (sym (ap disk_after is ∙ disk_after_push calls (record { area = area; act = SyncNames }))) (record {
-        here = λ bare. subst (λ (f : Folder). FolderPicked pick (folder_in area from) f) (sym (folder_in_same area sync last)) (record {
-            each = λ name. found (taking.here bare) name (picked_names pick (folder_in area from) name) refl;
-            settled = (taking.here bare).settled;
-            named = refl;
-        });
-        beside = stays area ∙ taking.beside;
+      here = λ bare. subst (λ (f : Folder). FolderPicked pick (folder_in area from) f) (sym (folder_in_same area sync last)) (record {
+        each = λ name. found (taking.here bare) name (picked_names pick (folder_in area from) name) refl;
+        settled = (taking.here bare).settled;
+        named = refl;
+      });
+      beside = stays area ∙ taking.beside;
     })
   where
     last : DiskState
     last = disk_after calls
+
     sync : Folder → Folder
     sync = folder_after (length calls) SyncNames
+
     stays : (a : Area) → folder_in (other_area a) (in_folder a sync last) ≡ folder_in (other_area a) last
     stays State = refl
     stays Files = refl
+
     whole : take bound names ≡ names
     whole = take_all bound names all
+
     found : Taking pick (folder_in area from) area names bound last → (name : List ℕ) → (number : Option ℕ) → picked_names pick (folder_in area from) name ≡ number
         → NamePicked pick (folder_in area from).file (picked_names pick (folder_in area from) name) (contents_of (folder_in area last) name)
     found done name (Some number) is_some_number =

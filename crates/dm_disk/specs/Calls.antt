@@ -1,5 +1,5 @@
 -- The calls that changed a disk in memory, and what the disk is after them.
-use Rattle.std.specs.Prelude.{ℕ, ◌+◌, ◌==◌, if◌then◌else◌, List, [], ◌∷◌, ◌++◌, length, take, max, Option}
+use Rattle.std.specs.Prelude.{ℕ, ◌+◌, ◌==◌, if◌then◌else◌, List, [], ◌∷◌, ◌++◌, length, take, max}
 use Rattle.dm_disk_model.specs.File.{File, empty_file, synced_file, overwrite}
 use Rattle.dm_disk_model.specs.Folder.{Folder, Created, Renamed, Removed, no_names, names_of}
 use Rattle.dm_disk_model.specs.Disk.{DiskState, History}

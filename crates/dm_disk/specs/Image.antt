@@ -1,5 +1,5 @@
 -- The picked image of a disk, and a disk that holds it alone.
-use Rattle.std.specs.Prelude.{◌≡◌, ◌≢◌, ℕ, ◌+◌, ◌<◌, ◌≤◌, Bool, true, false, ◌&&◌, List, [], length, take, slice_index, slice_get, Option, Some, None}
+use Rattle.std.specs.Prelude.{◌≡◌, ◌≢◌, ℕ, ◌<◌, Bool, true, false, ◌&&◌, List, [], length, slice_index, slice_get, Option, Some, None}
 use Rattle.dm_disk_model.specs.File.{File, IsClean}
 use Rattle.dm_disk_model.specs.Folder.{Names, Folder, names_of, contents_of}
 use Rattle.dm_disk_model.specs.Disk.{DiskState, Image, folder_in}

@@ -1,9 +1,9 @@
 -- After any calls the disk is sound: no two names share a file, and no file was synced longer than it is.
-use Rattle.std.specs.Prelude.{◌≡◌, ◌≢◌, ℕ, ◌+◌, ◌<◌, ◌≤◌, ◌==◌, Bool, true, false, if◌then◌else◌, List, [], ◌∷◌, ◌++◌, length, take, Some, refl}
-use Rattle.std.proofs.Common.{sym, subst, ⊎_elim, cond, arith, zero-add}
+use Rattle.std.specs.Prelude.{◌≡◌, ◌≢◌, ℕ, ◌+◌, ◌<◌, ◌≤◌, ◌==◌, Bool, true, false, List, [], ◌∷◌, length, Some, refl}
+use Rattle.std.proofs.Common.{subst, ⊎_elim, cond, arith, zero-add}
 use Rattle.std.proofs.lemmas.Option.{none-some}
-use Rattle.dm_disk_model.specs.File.{File, empty_file, synced_file, overwrite}
-use Rattle.dm_disk_model.specs.Folder.{Names, Change, Created, Renamed, Removed, Folder, AreApart, EachPrefix, IsSoundFolder, names_of, after_change, no_names}
+use Rattle.dm_disk_model.specs.File.{File, empty_file, synced_file}
+use Rattle.dm_disk_model.specs.Folder.{Names, Change, Created, Renamed, Removed, Folder, AreApart, EachPrefix, names_of}
 use Rattle.dm_disk_model.specs.Disk.{DiskState, IsSoundDisk}
 use Rattle.dm_disk_model.specs.declared.place.Area.{Area}
 use Rattle.dm_disk_model.specs.declared.place.Area.TheVariants.{State, Files}

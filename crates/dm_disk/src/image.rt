@@ -37,7 +37,13 @@ pub(crate) fn image_log(alloc: Global, calls: &[Call], pick: Pick) -> Result<Log
 }
 
 /// Adds the calls for one folder, to a log that has none for it.
-fn take_folder(alloc: Global, calls: &[Call], area: Area, pick: Pick, log: &mut Log) -> Result<(), NoMemory>
+fn take_folder(
+    alloc: Global,
+    calls: &[Call],
+    area: Area,
+    pick: Pick,
+    log: &mut Log,
+) -> Result<(), NoMemory>
     requires { most_end calls.now < 2 ^ 63 }
     ensures { OnOk result (IsTaken pick area (disk_after calls.now) (disk_after log.old.calls.items) (disk_after log.new.calls.items)) }
 {
@@ -52,7 +58,15 @@ fn take_folder(alloc: Global, calls: &[Call], area: Area, pick: Pick, log: &mut 
 }
 
 /// Puts the picked content of one name.
-fn take_name(alloc: Global, calls: &[Call], named: &[Call], area: Area, name: &[u8], pick: Pick, log: &mut Log) -> Result<(), NoMemory>
+fn take_name(
+    alloc: Global,
+    calls: &[Call],
+    named: &[Call],
+    area: Area,
+    name: &[u8],
+    pick: Pick,
+    log: &mut Log,
+) -> Result<(), NoMemory>
     requires ends { most_end calls.now < 2 ^ 63 }
     requires stands { IsSome (names_of (folder_in area (disk_after named.now)) name.now) }
     ensures { OnOk result (NameIsTaken pick area name.now (names_of (folder_in area (disk_after named.now))) (disk_after calls.now) (disk_after log.old.calls.items) (disk_after log.new.calls.items)) }
@@ -101,7 +115,13 @@ fn is_names_sync(call: &Call, area: Area) -> bool
 }
 
 /// The picked content of a file.
-fn content(alloc: Global, calls: &[Call], area: Area, file: u64, pick: Pick) -> Result<Vec<u8>, NoMemory>
+fn content(
+    alloc: Global,
+    calls: &[Call],
+    area: Area,
+    file: u64,
+    pick: Pick,
+) -> Result<Vec<u8>, NoMemory>
     requires { most_end calls.now < 2 ^ 63 }
     ensures picked { IfOk result (λ bytes. IsPicked pick (file_in area file (disk_after calls.now)) bytes.items) }
     ensures near { IfOk result (λ bytes. length bytes.items < 2 ^ 63) }
@@ -172,7 +192,14 @@ fn is_sync(call: &Call, area: Area, file: u64) -> bool
 }
 
 /// The least bytes after the call at a place, by those before it.
-fn least_after(alloc: Global, calls: &[Call], place: usize, area: Area, file: u64, bytes: Vec<u8>) -> Result<Vec<u8>, NoMemory>
+fn least_after(
+    alloc: Global,
+    calls: &[Call],
+    place: usize,
+    area: Area,
+    file: u64,
+    bytes: Vec<u8>,
+) -> Result<Vec<u8>, NoMemory>
     requires ends { most_end calls.now < 2 ^ 63 }
     requires near { length bytes.items < 2 ^ 63 }
     requires within { place < length calls.now }
@@ -205,7 +232,11 @@ fn least_past(act: &Act, number: u64, file: u64, mut bytes: Vec<u8>) -> Vec<u8>
                 bytes.clear();
             }
         }
-        Act::Write { file: written, at, bytes: piece } => {
+        Act::Write {
+            file: written,
+            at,
+            bytes: piece,
+        } => {
             if file == *written {
                 blank(&mut bytes, *at, piece.len() as u64);
             }

@@ -13,14 +13,12 @@ use dm_disk_model::Disk;
 /// A disk as it reads is one of the images that a crash may leave of it.
 pub fn reads_as_an_image<D: Disk>(disk: &D)
     ensures { D.tells → MayLeave (now (D.history disk.now)) (reading (now (D.history disk.now))) }
-{
-}
+{}
 
 /// Each image is made of what the one folder may leave and of what the other may.
 pub fn images_are_made_of_both()
     ensures { (disk : DiskState) (image : Image) → MayLeave disk image ↔ (FolderLeaves disk.state image.state × FolderLeaves disk.files image.files) }
-{
-}
+{}
 
 /// A call changes what may be left in its own folder alone, whatever it answers.
 pub fn calls_stay_in_their_folder()
@@ -30,8 +28,7 @@ pub fn calls_stay_in_their_folder()
     ensures rename { (from to : ThePlace) (result : Result (Unit {0}) TheFault) (old new : DiskState) → RenameStep from to result old new → OtherStays from.area old new }
     ensures remove { (place : ThePlace) (result : Result (Unit {0}) TheFault) (old new : DiskState) → RemoveStep place result old new → OtherStays place.area old new }
     ensures sync_names { (area : TheArea) (result : Result (Unit {0}) TheFault) (old new : DiskState) → SyncNamesStep area result old new → OtherStays area old new }
-{
-}
+{}
 
 /// A write, also one that was only begun, and a sync change no file but their own, under whichever
 /// name that file survives.
@@ -39,13 +36,11 @@ pub fn writes_stay_in_their_file()
     ensures write { (name : List ℕ) (at : ℕ) (bytes : List ℕ) (old new : Folder) → FileSteps name (IsWritten at bytes) old new → OthersLeaveSame name old new }
     ensures begun { (name : List ℕ) (at count : ℕ) (old new : Folder) → FileSteps name (IsTorn at count) old new → OthersLeaveSame name old new }
     ensures sync { (name : List ℕ) (old new : Folder) → FileSteps name IsSynced old new → OthersLeaveSame name old new }
-{
-}
+{}
 
 /// A change of names leaves the bytes of every file that keeps a name.
 pub fn names_leave_the_bytes()
     ensures change { (change : Change) (old new : Folder) → Changes change old new → (number : ℕ) → new.file number ≡ old.file number }
     ensures create { (name : List ℕ) (old new : Folder) → (made : Creates name old new) → (number : ℕ) → number ≢ made.number → new.file number ≡ old.file number }
     ensures sync { (old new : Folder) → SyncsNames old new → (number : ℕ) → new.file number ≡ old.file number }
-{
-}
+{}

@@ -5,8 +5,8 @@ mod call;
 mod content;
 mod failing;
 mod find;
-mod laws;
 mod image;
+mod laws;
 mod listing;
 mod log;
 mod memory;
@@ -15,7 +15,10 @@ mod meter;
 pub use dm_disk_model::{Area, Disk, DiskFault, NameList, NamesFault, Place};
 pub use failing::{FailList, FailingCall};
 pub use image::Pick;
-pub use laws::{calls_stay_in_their_folder, images_are_made_of_both, names_leave_the_bytes, reads_as_an_image, writes_stay_in_their_file};
+pub use laws::{
+    calls_stay_in_their_folder, images_are_made_of_both, names_leave_the_bytes, reads_as_an_image,
+    writes_stay_in_their_file,
+};
 pub use memory::MemoryDisk;
 
 #[cfg(test)]

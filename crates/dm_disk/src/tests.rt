@@ -44,25 +44,49 @@ fn take_away(disk: &mut MemoryDisk, place: &Place) -> Result<(), DiskFault> {
     }
 }
 
+/// An empty disk and a place.
+fn start(alloc: Global) -> Result<(MemoryDisk, Place), Fail> {
+    let disk = MemoryDisk::new(alloc, Listed::new(alloc), None)?;
+    Ok((disk, place(alloc, Area::Files, b"a")?))
+}
+
+/// What four bytes at a place of the file read, with 7 behind the end.
+fn four(disk: &mut MemoryDisk, place: &Place, at: u64) -> Result<[u8; 4], DiskFault> {
+    let mut buf = [7u8; 4];
+    read(disk, place, at, &mut buf)?;
+    Ok(buf)
+}
+
 #[test]
 fn a_file_reads_as_it_was_written(rt: HostRuntime) -> Result<(), Fail> {
-    let alloc = rt.alloc();
-    let mut disk = MemoryDisk::new(alloc, Listed::new(alloc), None)?;
-    let here = place(alloc, Area::Files, b"a")?;
+    let (mut disk, here) = start(rt.alloc())?;
     make(&mut disk, &here)?;
     write(&mut disk, &here, 2, b"llo")?;
     write(&mut disk, &here, 0, b"he")?;
     assert_eq!(rt; disk.length(&here)?, Some(5));
-    let mut buf = [7u8; 4];
-    assert_eq!(rt; read(&mut disk, &here, 1, &mut buf)?, 4);
-    assert_eq!(rt; buf.as_slice(), b"ello".as_slice());
-    assert_eq!(rt; read(&mut disk, &here, 5, &mut buf)?, 0);
-    write(&mut disk, &here, 7, b"!")?;
-    assert_eq!(rt; read(&mut disk, &here, 4, &mut buf)?, 4);
-    assert_eq!(rt; buf.as_slice(), [b'o', 0, 0, b'!'].as_slice());
-    let names = disk.names(alloc, Area::Files)?;
-    assert_eq!(rt; names.count(), 1);
-    assert_eq!(rt; disk.names(alloc, Area::State)?.count(), 0);
+    assert_eq!(rt; four(&mut disk, &here, 1)?, *b"ello");
+    Ok(())
+}
+
+#[test]
+fn zeros_stand_between(rt: HostRuntime) -> Result<(), Fail> {
+    let (mut disk, here) = start(rt.alloc())?;
+    make(&mut disk, &here)?;
+    write(&mut disk, &here, 2, b"!")?;
+    assert_eq!(rt; four(&mut disk, &here, 0)?, [0, 0, b'!', 7]);
+    Ok(())
+}
+
+#[test]
+fn a_name_is_listed_until_it_is_removed(rt: HostRuntime) -> Result<(), Fail> {
+    let (mut disk, here) = start(rt.alloc())?;
+    make(&mut disk, &here)?;
+    assert_eq!(rt;
+        disk.names(rt.alloc(), Area::Files)
+            .map_err(|_| "no names")?
+            .count(),
+        1
+    );
     take_away(&mut disk, &here)?;
     assert_eq!(rt; disk.length(&here)?, None);
     assert_eq!(rt; disk.starved(), 0);
@@ -77,51 +101,63 @@ fn listed_and_stopped_calls_fail(rt: HostRuntime) -> Result<(), Fail> {
         call: 1,
         kind: DiskKind::Denied,
     })?;
-    let mut disk = MemoryDisk::new(alloc, failing, Some(4))?;
-    let here = place(alloc, Area::State, b"a")?;
-    assert_eq!(rt; disk.length(&here), Ok(None));
-    assert_eq!(rt; disk.length(&here), Err(DiskFault(DiskKind::Denied)));
-    make(&mut disk, &here)?;
-    assert_eq!(rt; disk.length(&here), Err(DiskFault(DiskKind::Failed)));
-    assert_eq!(rt; disk.sync_names(Area::State), Err(DiskFault(DiskKind::Failed)));
+    let mut disk = MemoryDisk::new(alloc, failing, Some(2))?;
+    assert_eq!(rt; disk.sync_names(Area::State), Ok(()));
+    assert_eq!(rt;
+        disk.sync_names(Area::State),
+        Err(DiskFault(DiskKind::Denied))
+    );
+    assert_eq!(rt;
+        disk.sync_names(Area::State),
+        Err(DiskFault(DiskKind::Failed))
+    );
     Ok(())
 }
 
 #[test]
 fn a_range_that_ends_too_far_is_refused(rt: HostRuntime) -> Result<(), Fail> {
-    let alloc = rt.alloc();
-    let mut disk = MemoryDisk::new(alloc, Listed::new(alloc), None)?;
-    let here = place(alloc, Area::Files, b"a")?;
+    let (mut disk, here) = start(rt.alloc())?;
     make(&mut disk, &here)?;
-    assert_eq!(rt; write(&mut disk, &here, (1 << 63) - 1, b"b"), Err(DiskFault(DiskKind::NoSpace)));
-    assert_eq!(rt; write(&mut disk, &here, u64::MAX, b"b"), Err(DiskFault(DiskKind::NoSpace)));
+    assert_eq!(rt;
+        write(&mut disk, &here, (1 << 63) - 1, b"b"),
+        Err(DiskFault(DiskKind::NoSpace))
+    );
     assert_eq!(rt; disk.length(&here)?, Some(0));
     Ok(())
 }
 
-// One file is synced and then written, another has a name that isn't synced.
-#[test]
-fn both_images_hold_what_they_say(rt: HostRuntime) -> Result<(), Fail> {
-    let alloc = rt.alloc();
-    let mut disk = MemoryDisk::new(alloc, Listed::new(alloc), None)?;
-    let here = place(alloc, Area::Files, b"a")?;
-    let there = place(alloc, Area::Files, b"b")?;
+/// A file of `save`, synced under its name, that was written to `same` since.
+fn half_kept(alloc: Global) -> Result<(MemoryDisk, Place), Fail> {
+    let (mut disk, here) = start(alloc)?;
     make(&mut disk, &here)?;
-    write(&mut disk, &here, 0, b"hello")?;
+    write(&mut disk, &here, 0, b"save")?;
     keep(&mut disk, &here)?;
     disk.sync_names(Area::Files)?;
-    write(&mut disk, &here, 3, b"p me")?;
-    make(&mut disk, &there)?;
-    let mut buf = [7u8; 9];
+    write(&mut disk, &here, 2, b"me")?;
+    Ok((disk, here))
+}
 
-    let mut present = disk.image(alloc, Pick::Present)?;
-    assert_eq!(rt; present.length(&there)?, Some(0));
-    assert_eq!(rt; read(&mut present, &here, 0, &mut buf)?, 7);
-    assert_eq!(rt; buf.as_slice(), b"help me\x07\x07".as_slice());
+#[test]
+fn the_present_image_is_as_the_disk_reads(rt: HostRuntime) -> Result<(), Fail> {
+    let (disk, here) = half_kept(rt.alloc())?;
+    let mut present = disk.image(rt.alloc(), Pick::Present)?;
+    assert_eq!(rt; four(&mut present, &here, 0)?, *b"same");
+    Ok(())
+}
 
-    let mut least = disk.image(alloc, Pick::Least)?;
-    assert_eq!(rt; least.length(&there)?, None);
-    assert_eq!(rt; read(&mut least, &here, 0, &mut buf)?, 5);
-    assert_eq!(rt; buf.as_slice(), b"hel\0\0me\x07\x07".as_slice());
+#[test]
+fn the_least_image_has_zeros_where_a_write_was(rt: HostRuntime) -> Result<(), Fail> {
+    let (disk, here) = half_kept(rt.alloc())?;
+    let mut least = disk.image(rt.alloc(), Pick::Least)?;
+    assert_eq!(rt; four(&mut least, &here, 0)?, *b"sa\0\0");
+    Ok(())
+}
+
+#[test]
+fn the_least_image_has_no_name_that_was_not_synced(rt: HostRuntime) -> Result<(), Fail> {
+    let (mut disk, here) = start(rt.alloc())?;
+    make(&mut disk, &here)?;
+    let mut least = disk.image(rt.alloc(), Pick::Least)?;
+    assert_eq!(rt; least.length(&here)?, None);
     Ok(())
 }

@@ -1,11 +1,11 @@
 -- A name's one file through the steps of its folder.
-use Rattle.std.proofs.Common.{◌≡◌, ◌≢◌, ◌⊎◌, ⊎_elim, ℕ, List, [], ◌∷◌, ◌++◌, length, take, Option, Some, None, refl, sym, ◌∙◌, ap, subst, arith}
+use Rattle.std.proofs.Common.{◌≡◌, ◌≢◌, ℕ, List, Option, Some, None, refl, sym, ◌∙◌, ap, subst}
 use Rattle.std.specs.Option.{option_map}
-use Rattle.std.proofs.lemmas.Option.{none-some, same_Some}
-use Rattle.dm_disk_model.specs.File.{File, FileLeaves, empty_file}
-use Rattle.dm_disk_model.specs.Folder.{Names, Folder, Contents, FolderLeaves, NameLeaves, Change, Created, Renamed, Removed, FileSteps, Creates, Changes, SyncsNames, EachPrefix, AreApart, IsSoundFolder, names_of, names_after, contents_of, after_change, with_name}
+use Rattle.std.proofs.lemmas.Option.{same_Some}
+use Rattle.dm_disk_model.specs.File.{File, FileLeaves}
+use Rattle.dm_disk_model.specs.Folder.{Names, Folder, Contents, FolderLeaves, NameLeaves, Change, Created, FileSteps, Creates, Changes, SyncsNames, EachPrefix, AreApart, IsSoundFolder, names_of, names_after, contents_of, after_change}
 use Rattle.dm_disk_model.specs.Firm.{HasFile, HasNone, LeftOf}
-use Rattle.dm_disk_model.proofs.PendingNames.{each_now, each_more, each_synced, with_name_same, with_name_other}
+use Rattle.dm_disk_model.proofs.PendingNames.{each_now, each_more, each_synced, with_name_other}
 
 -- what holds of each prefix stays where neither the synced names nor the changes change
 pub each_same : (old new : Folder) (P : Names → Type 0) → new.synced ≡ old.synced → new.changes ≡ old.changes → EachPrefix old P → EachPrefix new P
@@ -61,7 +61,7 @@ steps_beside old new name other step file sound apart has taken = record {
   named = each_same old new (λ names. names name ≡ Some has.number) taken.synced taken.changes has.named;
   is = taken.others has.number
       (λ (same : has.number ≡ taken.number).
-          apart (each_now old AreApart sound.apart other name taken.number taken.stands (named_now old name file has ∙ ap Some same)))
+      apart (each_now old AreApart sound.apart other name taken.number taken.stands (named_now old name file has ∙ ap Some same)))
       ∙ has.is;
 }
 

@@ -1,9 +1,9 @@
 -- The images of a disk: the disk as it reads is one, each is made of one for each folder, and what a step leaves of them.
-use Rattle.std.proofs.Common.{◌≡◌, ◌≢◌, ◌↔◌, ℕ, ◌≤◌, inl, inr, List, length, take, Option, Some, None, Result, Ok, Err, refl, sym, ◌∙◌, ap, subst, arith}
+use Rattle.std.proofs.Common.{◌≡◌, ◌≢◌, ◌↔◌, ℕ, ◌≤◌, inl, inr, List, length, take, Option, Some, None, Result, Ok, Err, refl, sym, ap, subst, arith}
 use Rattle.std.specs.Option.{option_map}
 use Rattle.std.proofs.lemmas.List.{take_all}
 use Rattle.dm_disk_model.specs.File.{File, FileLeaves}
-use Rattle.dm_disk_model.specs.Folder.{Names, Folder, Contents, FolderLeaves, NameLeaves, FileSteps, Changes, Change, IsSoundFolder, names_of, names_after, contents_of, after_changes}
+use Rattle.dm_disk_model.specs.Folder.{Names, Folder, FolderLeaves, NameLeaves, FileSteps, Changes, Change, IsSoundFolder, names_of, names_after, contents_of, after_changes}
 use Rattle.dm_disk_model.specs.Disk.{DiskState, Image, MayLeave, IsSoundDisk, InArea, reading, folder_in}
 use Rattle.dm_disk_model.specs.Laws.{OtherStays, OthersLeaveSame, other_area}
 use Rattle.dm_disk_model.specs.Disk.{Done}
@@ -74,6 +74,7 @@ other_files old new name step taken survive other found apart =
       where
         is : new.file number ≡ old.file number
         is = taken.others number (λ (e : number ≡ taken.number). apart_here (ap Some e))
+
         some : (f : Option (List ℕ)) → NameLeaves new.file (Some number) f ↔ NameLeaves old.file (Some number) f
         some None = (λ left. left, λ left. left)
         some (Some bytes) = (subst (λ (file : File). FileLeaves file bytes) is, subst (λ (file : File). FileLeaves file bytes) (sym is))

@@ -1,7 +1,7 @@
 -- How what holds at each moment goes on over the calls.
-use Rattle.std.proofs.Common.{◌≡◌, ◌⊎◌, inl, inr, ⊎_elim, ℕ, ◌<◌, ◌≤◌, refl, sym, ◌∙◌, subst, arith}
+use Rattle.std.proofs.Common.{◌≡◌, ⊎_elim, ℕ, ◌<◌, ◌≤◌, refl, sym, ◌∙◌, subst, arith}
 use Rattle.std.proofs.lemmas.Bool.{cases_lt}
-use Rattle.dm_disk_model.specs.Disk.{DiskState, Image, History, Next, now, MayLeave, MayHaveLeft}
+use Rattle.dm_disk_model.specs.Disk.{DiskState, Image, History, Next, now, MayHaveLeft}
 use Rattle.dm_disk_model.specs.Moments.{Throughout, LeavesOnly, Reached}
 
 -- nothing was done

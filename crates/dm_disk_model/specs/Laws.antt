@@ -1,7 +1,6 @@
 -- What a step of one folder leaves of the rest.
 use Rattle.std.specs.Prelude.{◌≡◌, ◌≢◌, ◌↔◌, ℕ, List, Option, Some}
-use Rattle.dm_disk_model.specs.Folder.{Folder, NameLeaves, FileSteps, names_of, names_after}
-use Rattle.dm_disk_model.specs.File.{File}
+use Rattle.dm_disk_model.specs.Folder.{Folder, NameLeaves, names_of, names_after}
 use Rattle.dm_disk_model.specs.Disk.{DiskState, folder_in}
 use Rattle.dm_disk_model.specs.declared.place.Area.{Area}
 use Rattle.dm_disk_model.specs.declared.place.Area.TheVariants.{State, Files}

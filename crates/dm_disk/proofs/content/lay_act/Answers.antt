@@ -1,4 +1,4 @@
-use Rattle.std.proofs.Common.{arith, subst, sym, List, ℕ}
+use Rattle.std.proofs.Common.{arith}
 use Rattle.dm_disk.proofs.Contents.{laid}
 use Rattle.dm_disk.proofs.content.lay_act.Goals as goal
 

@@ -1,4 +1,4 @@
-use Rattle.std.proofs.Common.{◌≡◌, ◌<◌, ◌+◌, ◌^◌, length, take}
+use Rattle.std.proofs.Common.{take}
 use Rattle.dm_disk.specs.Calls.{disk_after}
 use Rattle.dm_disk.specs.Look.{file_in, Shows}
 use Rattle.dm_disk.proofs.content.show.Given as goal

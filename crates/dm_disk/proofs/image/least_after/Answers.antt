@@ -1,7 +1,5 @@
-use Rattle.std.proofs.Common.{arith, ◌≡◌, ◌<◌, ◌≤◌, ◌∙◌, length, take, refl, sym, ap}
+use Rattle.std.proofs.Common.{arith}
 use Rattle.std.proofs.lemmas.Bool.{iff_false}
-use Rattle.dm_disk.specs.declared.call.Call.{Call}
-use Rattle.dm_disk.specs.declared.call.Act.TheVariants.{Sync}
 use Rattle.dm_disk.proofs.Replay.{most_end_at}
 use Rattle.dm_disk.proofs.Picks.{most_end_take, least_beside, least_more, least_synced, made_of_parts}
 use Rattle.dm_disk.proofs.image.least_after.Goals as goal

@@ -1,4 +1,4 @@
-use Rattle.std.proofs.Common.{◌≡◌, ◌≤◌, length, take}
+use Rattle.std.proofs.Common.{◌≡◌, ◌≤◌, take}
 use Rattle.dm_disk_model.specs.Folder.{names_of}
 use Rattle.dm_disk_model.specs.Disk.{folder_in}
 use Rattle.dm_disk.specs.Calls.{disk_after}

@@ -1,4 +1,4 @@
-use Rattle.std.proofs.Common.{◌≡◌, List, ℕ, get_or, take, length, subst, sym, ap, ◌∙◌, arith}
+use Rattle.std.proofs.Common.{◌≡◌, List, ℕ, get_or, take, subst, sym, ap, ◌∙◌, arith}
 use Rattle.dm_disk_model.specs.Folder.{Names, Lists}
 use Rattle.dm_disk_model.specs.Disk.{folder_in}
 use Rattle.dm_disk.specs.Calls.{disk_after}
@@ -23,6 +23,6 @@ returns c =
     let calls = c.args.calls.now in
     let names = c.deref-name-items.result.now in
     let lists : Lists (folder_in c.args.area (disk_after (take count calls))) names =
-        subst (λ (xs : List (List ℕ)). Lists (folder_in c.args.area (disk_after (take count calls))) xs) (sym c.deref-name-items.ensures.value) c.in_ok-names.ensures in
+    subst (λ (xs : List (List ℕ)). Lists (folder_in c.args.area (disk_after (take count calls))) xs) (sym c.deref-name-items.ensures.value) c.in_ok-names.ensures in
     all_taken c.args.pick (disk_after calls) (disk_after (take count calls)) c.args.area names c.loop-name.name-index (disk_after c.args.log.now.calls.items)
     c.loop-name.log.calls.items c.sync_names.new.self.calls.items (omega arith) c.names_until-count.ensures.names lists c.loop-name.invariant c.in_ok-sync_names.ensures.ok

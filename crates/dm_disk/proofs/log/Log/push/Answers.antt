@@ -1,6 +1,6 @@
-use Rattle.std.proofs.Common.{◌≡◌, ◌++◌, ◌∷◌, [], ◌<◌, ◌^◌, ap, arith, is_ok, ⊎_elim}
+use Rattle.std.proofs.Common.{◌≡◌, ◌++◌, ◌∷◌, [], ap, arith, is_ok, ⊎_elim}
 use Rattle.std.proofs.lemmas.Bool.{cases_cond}
-use Rattle.dm_disk.specs.Calls.{end_of, most_end}
+use Rattle.dm_disk.specs.Calls.{most_end}
 use Rattle.dm_disk.proofs.Replay.{most_end_push}
 use Rattle.dm_disk.proofs.log.Log.push.Goals as goal
 
