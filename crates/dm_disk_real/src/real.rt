@@ -60,6 +60,11 @@ impl<R: Files<File = File> + Drop> RealDisk<R> {
 }
 
 impl From<FolderFault> for NamesFault {
+    ghost use Rattle.std.specs.Prelude.{◌≡◌};
+    ghost use Rattle.dm_disk_real.specs.Faults.{names_fault};
+
+    ghost from_gives = { λ fault answer. answer ≡ names_fault fault };
+
     fn from(fault: FolderFault) -> NamesFault {
         match fault {
             FolderFault::System(e) => NamesFault::Disk(kind_of_error(&e)),
