@@ -373,3 +373,15 @@ module _ {A : Type 0} (kind : A → ℕ) (spell : A → List ℕ) (Fits : A → 
 
   pub tagged : Exact tagged_spelling Fits read
   tagged = record { some = some; again = tagged_again; found = tagged_found; stops = tagged_stops }
+
+-- two fields that stand for themselves
+pub next : {A B : Type 0} {spell : A → List ℕ} {Fits : A → Type 0} {read : List ℕ → Reading A} {spell' : B → List ℕ} {Fits' : B → Type 0} {read' : List ℕ → Reading B}
+    → Exact spell Fits read → Exact spell' Fits' read'
+    → Exact (λ (p : A × B). spell p.0 ++ spell' p.1) (λ (p : A × B). Fits p.0 × Fits' p.1) (in_turn read (λ _. read'))
+next {spell} {Fits} {read} {spell'} {Fits'} {read'} exact exact' = turn spell Fits read (λ _. spell') (λ _. Fits') (λ _. read') exact (λ _ _. exact')
+
+-- another type with the same parts
+pub respelled_by : {A B : Type 0} {spell : A → List ℕ} {Fits : A → Type 0} {read : List ℕ → Reading A} (make : A → B) (spell' : B → List ℕ) (Fits' : B → Type 0) (parts : B → A)
+    → ((a : A) → spell' (make a) ≡ spell a) → ((b : B) → make (parts b) ≡ b) → ((a : A) → Fits a → Fits' (make a)) → ((b : B) → Fits' b → Fits (parts b))
+    → Exact spell Fits read → Exact spell' Fits' (made_by make read)
+respelled_by {spell} {Fits} {read} make spell' Fits' parts same whole to from exact = made spell Fits read spell' Fits' make (λ a fits. (to a fits, same a)) (λ b fits. (parts b, whole b, from b fits)) exact

@@ -1,2 +1,4 @@
 pub mod Exact
 pub mod Fields
+pub mod Values
+pub mod Entries
