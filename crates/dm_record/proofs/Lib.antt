@@ -1,4 +1,6 @@
 pub mod Exact
-pub mod Fields
-pub mod Values
-pub mod Entries
+pub mod ExactFields
+pub mod ExactValues
+pub mod ExactEntries
+pub mod Turns
+pub mod Places

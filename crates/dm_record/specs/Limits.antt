@@ -1,5 +1,5 @@
 -- What an entry keeps, and the three ways in which bytes may stand to the entries.
-use Rattle.std.specs.Prelude.{◌≡◌, ◌≢◌, ◌<◌, ◌≤◌, ◌+◌, ◌^◌, ℕ, Bool, List, [], ◌∷◌, ◌++◌, length, take, Option, Some, None, IfSome}
+use Rattle.std.specs.Prelude.{◌≡◌, ◌≢◌, ◌<◌, ◌≤◌, ◌+◌, ◌^◌, ℕ, Bool, List, [], ◌∷◌, ◌++◌, length, take, Option, Some, None, IfSome, Result, Ok, Err}
 use Rattle.std.specs.List.{AllByRecursion}
 use Rattle.dm_types.specs.declared.entry.Entry.{Entry}
 use Rattle.dm_types.specs.declared.entry.Entry.TheVariants.{Added, Began, Described, Progress, Broke, Paused, Cancelled, Restarted, Finishing, Done, Removed, Archived, Reopened, Restored, Asked}
@@ -10,6 +10,8 @@ use Rattle.dm_types.specs.declared.item.Phase.{Phase}
 use Rattle.dm_types.specs.declared.item.Phase.TheVariants as phases
 use Rattle.dm_types.specs.declared.reason.Reason.{Reason}
 use Rattle.dm_types.specs.declared.slices.Slice.{Slice}
+use Rattle.dm_record.specs.declared.fault.RecordFault.{RecordFault}
+use Rattle.dm_record.specs.declared.fault.RecordFault.TheVariants as faults
 use Rattle.dm_record.specs.Spelling.{spelling_of}
 
 -- ---- the limits of the format
@@ -140,3 +142,19 @@ pub record IsBadAt (bytes : List ℕ) (place : ℕ) : Type 0 where
   pub no_entry : BeginsWithEntry bytes → ⊥
   pub goes_on : BeginsEntry (take place bytes)
   pub stops : BeginsEntry (take (place + 1) bytes) → ⊥
+
+-- ---- what reading answers
+
+-- an answer, and what it says of the bytes
+abbrev pub Answers : List ℕ → Result (Entry × ℕ) RecordFault → Type 0
+Answers bytes (Ok found) = IsEntry found.0 × (found.1 ≡ length (spelling_of found.0)) × (take found.1 bytes ≡ spelling_of found.0)
+Answers bytes (Err faults.Short) = IsCut bytes
+Answers bytes (Err (faults.Bad place)) = IsBadAt bytes place
+Answers bytes (Err faults.NoMemory) = Unit {0}
+
+-- the answer is this one, unless memory ran out
+abbrev pub UnlessMemory : Result (Entry × ℕ) RecordFault → Result (Entry × ℕ) RecordFault → Type 0
+UnlessMemory (Ok found) expected = Ok found ≡ expected
+UnlessMemory (Err faults.Short) expected = Err faults.Short ≡ expected
+UnlessMemory (Err (faults.Bad place)) expected = Err (faults.Bad place) ≡ expected
+UnlessMemory (Err faults.NoMemory) expected = Unit {0}

@@ -1,5 +1,5 @@
 -- Reading from the front: a value and the bytes after it, or why there is none.
-use Rattle.std.specs.Prelude.{◌≡◌, ℕ, zero, suc, ◌+◌, ◌*◌, Bool, true, false, List, [], ◌∷◌, length, take, drop, Option, Some, None, Result, Ok, Err, nat_lt, ◌==◌, find, if◌then◌else◌}
+use Rattle.std.specs.Prelude.{◌≡◌, ℕ, zero, suc, ◌+◌, ◌-◌, ◌*◌, Bool, true, false, List, [], ◌∷◌, length, take, drop, Option, Some, None, Result, Ok, Err, nat_lt, ◌==◌, find, if◌then◌else◌}
 use Rattle.std.specs.Int.{Width, w16, w32, w64, byte_len, from_be_bytes}
 use Rattle.dm_types.specs.declared.entry.Entry.{Entry}
 use Rattle.dm_types.specs.declared.entry.Entry.TheVariants.{Added, Began, Described, Progress, Broke, Paused, Cancelled, Restarted, Finishing, Done, Removed, Archived, Reopened, Restored, Asked}
@@ -21,6 +21,8 @@ use Rattle.dm_record.specs.declared.parts.Order.{Order}
 use Rattle.dm_record.specs.declared.parts.Course.{Course}
 use Rattle.dm_record.specs.declared.parts.Told.{Told}
 use Rattle.dm_record.specs.declared.parts.Kept.{Kept}
+use Rattle.dm_record.specs.declared.fault.RecordFault.{RecordFault}
+use Rattle.dm_record.specs.declared.fault.RecordFault.TheVariants as faults
 use Rattle.dm_record.specs.declared.fault.Stop.{Stop}
 use Rattle.dm_record.specs.declared.fault.Stop.TheVariants as stops
 
@@ -307,3 +309,13 @@ fields_at (suc (suc (suc (suc (suc (suc (suc (suc (suc (suc (suc (suc (suc (suc 
 unfoldable pub entry_at : List ℕ → Reading Entry
 entry_at [] = Err stops.Short
 entry_at (kind ∷ rest) = fields_at kind rest
+
+-- the same, with places counted from the front
+abbrev pub with_place : List ℕ → Reading Entry → Result (Entry × ℕ) RecordFault
+with_place bytes (Ok x) = Ok (x.0, length bytes - length x.1)
+with_place bytes (Err stops.Short) = Err faults.Short
+with_place bytes (Err (stops.Stray left)) = Err (faults.Bad (length bytes - left))
+with_place bytes (Err stops.NoMemory) = Err faults.NoMemory
+
+unfoldable pub record_at : List ℕ → Result (Entry × ℕ) RecordFault
+record_at bytes = with_place bytes (entry_at bytes)

@@ -86,14 +86,28 @@ kind_of (Reopened next at) = 13
 kind_of (Restored item) = 14
 kind_of (Asked id) = 15
 
--- an item: what was asked for, where it stands, what a reply told, and what is there
+-- what was asked for
+abbrev pub order_fields : Item → List ℕ
+order_fields i = number w32 i.id.0 ⌢ text i.word ⌢ text i.first_address ⌢ text i.wish ⌢ optional digest i.digest
+
+-- where it stands
+abbrev pub phase_fields : Item → List ℕ
+phase_fields i = phase_byte i.phase ∷ optional reason i.reason
+
+-- how far it has come
+abbrev pub course_fields : Item → List ℕ
+course_fields i = number w32 i.epoch.0 ⌢ number w32 i.attempt.0 ⌢ number w32 i.autos ⌢ flag_byte i.begun ∷ []
+
+-- what a reply told of the content
+abbrev pub told_fields : Item → List ℕ
+told_fields i = optional key i.key ⌢ optional text i.last_address ⌢ optional (number w64) i.total ⌢ optional text i.name ⌢ optional text i.modified
+
+-- what is there of the content
+abbrev pub kept_fields : Item → List ℕ
+kept_fields i = slices i.slices ⌢ optional digest i.have ⌢ number w64 i.at_ms
+
 abbrev pub item_fields : Item → List ℕ
-item_fields i =
-    (number w32 i.id.0 ⌢ text i.word ⌢ text i.first_address ⌢ text i.wish ⌢ optional digest i.digest)
-    ⌢ (phase_byte i.phase ∷ optional reason i.reason)
-    ⌢ (number w32 i.epoch.0 ⌢ number w32 i.attempt.0 ⌢ number w32 i.autos ⌢ flag_byte i.begun ∷ [])
-    ⌢ (optional key i.key ⌢ optional text i.last_address ⌢ optional (number w64) i.total ⌢ optional text i.name ⌢ optional text i.modified)
-    ⌢ (slices i.slices ⌢ optional digest i.have ⌢ number w64 i.at_ms)
+item_fields i = order_fields i ⌢ phase_fields i ⌢ course_fields i ⌢ told_fields i ⌢ kept_fields i
 
 abbrev pub fields_of : Entry → List ℕ
 fields_of (Added id word address wish stated at) = number w32 id.0 ⌢ text word ⌢ text address ⌢ text wish ⌢ optional digest stated ⌢ number w64 at

@@ -1,3 +1,8 @@
+ghost use Rattle.std.specs.Prelude.{◌≡◌};
+ghost use Rattle.dm_record.specs.declared.fault.Stop.TheVariants as stops;
+
+use dm_types::NoMemory;
+
 /// Why bytes are no entry.
 #[derive(Clone, Copy, Debug, PartialEq, Eq)]
 pub enum RecordFault {
@@ -15,4 +20,12 @@ pub enum Stop {
     /// No field goes on with the byte at which this many bytes are left.
     Stray(usize),
     NoMemory,
+}
+
+impl From<NoMemory> for Stop {
+    ghost from_gives = { λ _ stop. stop ≡ stops.NoMemory };
+
+    fn from(_: NoMemory) -> Stop {
+        Stop::NoMemory
+    }
 }

@@ -2,7 +2,11 @@
 #![tactic(auto)]
 
 mod fault;
+mod fields;
+mod items;
+mod kinds;
 mod parts;
-mod reading;
+mod reader;
 
 pub use fault::RecordFault;
+pub use reader::read_entry;

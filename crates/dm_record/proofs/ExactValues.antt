@@ -1,5 +1,5 @@
 -- The parts of entries are read exactly.
-use Rattle.std.proofs.Common.{◌≡◌, ℕ, zero, suc, ◌+◌, ◌^◌, ◌<◌, ◌≤◌, Bool, true, false, cond, ltb, eqb, find, List, [], ◌∷◌, ◌++◌, length, Option, Some, None, Result, Ok, Err, refl, sym, ap, subst, ◌∙◌, append_assoc, arith, lit<, inl, inr, IfSome}
+use Rattle.std.proofs.Common.{◌≡◌, ℕ, zero, suc, ◌+◌, ◌^◌, ◌<◌, ◌≤◌, Bool, true, false, cond, ltb, eqb, find, List, [], ◌∷◌, ◌++◌, length, Option, Some, None, Result, Ok, Err, refl, sym, ap, subst, ◌∙◌, append_assoc, arith, lit<, inl, inr, IfSome, IfNone}
 use Rattle.std.specs.Int.{Width, w16, w32, w64}
 use Rattle.std.specs.List.{AllByRecursion, flat_map}
 use Rattle.std.proofs.lemmas.Bool.{cases_lt, le-ltb, lt-ltb, eqb-true}
@@ -23,7 +23,7 @@ use Rattle.dm_record.specs.Spelling.{number, text, optional, flag_byte, by_byte,
 use Rattle.dm_record.specs.Limits.{IsBytes, AtMost, IsDigest, IsTag, IsKey, IsSlice, IsCount, HasReason}
 use Rattle.dm_record.specs.Reading.{Reading, in_turn, made_by, coded_at, number_at, run_at, text_at, optional_at, times_at, flag_of, by_of, within, reasons, reason_of, id_at, epoch_at, attempt_at, digest_at, reason_at, key_at, slice_at, slices_at, phased_at, interrupted_at, phase_at}
 use Rattle.dm_record.proofs.Exact.{Exact, Branch, Image, made, made_image, respelled, turn, next, tagged}
-use Rattle.dm_record.proofs.Fields.{run_exact, number_exact, wide32, wide64, IsCode, coded_exact, text_exact, IsText, optional_exact, one_exact}
+use Rattle.dm_record.proofs.ExactFields.{run_exact, number_exact, wide32, wide64, IsCode, coded_exact, text_exact, IsText, optional_exact, one_exact}
 
 abbrev known : {A : Type 0} → A → Option A
 known a = Some a
@@ -136,6 +136,14 @@ reason_back tag r e = (tt, eqb-true (code_of r) tag (find_passes (λ x. eqb (cod
 
 pub reason_code : IsCode code_of (λ _. Unit {0}) reason_of
 reason_code = record { some = (FileFailed, tt); again = reason_again; back = reason_back }
+
+pub reason_is : (tag : ℕ) (o : Option Reason) → IfSome o (λ r. code_of r ≡ tag) → IfNone o ((r : Reason) → code_of r ≡ tag → ⊥) → o ≡ reason_of tag
+reason_is tag (Some r) some none = sym (subst (λ (n : ℕ). reason_of n ≡ Some r) some (reason_again r tt))
+reason_is tag None some none = sym (no_reason (reason_of tag) refl)
+  where
+    no_reason : (o : Option Reason) → reason_of tag ≡ o → reason_of tag ≡ None
+    no_reason None e = e
+    no_reason (Some r) e = absurd (none r (reason_back tag r e).1)
 
 reason_bytes : (r : Reason) → reason r ≡ 0 ∷ code_of r ∷ []
 unfolding number

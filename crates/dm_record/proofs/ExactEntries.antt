@@ -21,8 +21,8 @@ use Rattle.dm_record.specs.Spelling.{number, text, optional, digest, key, slices
 use Rattle.dm_record.specs.Limits.{IsBytes, AtMost, IsDigest, IsTag, IsKey, IsEntry, IsItem, IsSpellableItem}
 use Rattle.dm_record.specs.Reading.{Reading, in_turn, made_by, coded_at, number_at, text_at, optional_at, flag_of, digest_at, key_at, id_at, slices_at, phase_at, order_at, course_at, told_at, kept_at, make_added, make_began, make_described, make_progress, make_broke, make_restarted, make_finishing, make_done, make_reopened, make_item, make_restored, added_at, began_at, described_at, progress_at, broke_at, paused_at, cancelled_at, restarted_at, finishing_at, done_at, removed_at, archived_at, reopened_at, restored_at, asked_at, fields_at, entry_at}
 use Rattle.dm_record.proofs.Exact.{Exact, Branch, made, next, tagged, respelled_by}
-use Rattle.dm_record.proofs.Fields.{text_exact, optional_exact}
-use Rattle.dm_record.proofs.Values.{u32_exact, u64_exact, id_exact, epoch_exact, attempt_exact, digest_exact, key_exact, reason_exact, slices_exact, phase_exact, flag_exact, by_exact, within_exact, FitsKey, FitsSlices, FitsPhase, phase_spelling}
+use Rattle.dm_record.proofs.ExactFields.{text_exact, optional_exact}
+use Rattle.dm_record.proofs.ExactValues.{u32_exact, u64_exact, id_exact, epoch_exact, attempt_exact, digest_exact, key_exact, reason_exact, slices_exact, phase_exact, flag_exact, by_exact, within_exact, FitsKey, FitsSlices, FitsPhase, phase_spelling}
 
 -- the entries that are made of fields so
 abbrev Made : {X : Type 0} → (X → Entry) → Entry → Type 0
