@@ -6,6 +6,7 @@ mod fields;
 mod items;
 mod kinds;
 mod parts;
+mod puts;
 mod reader;
 
 pub use fault::RecordFault;
