@@ -85,7 +85,6 @@ module _ {A B : Type 0} (spell : A → List ℕ) (Fits : A → Type 0) (read : L
     (to : (a : A) → Fits a → Fits' (make a) × (spell' (make a) ≡ spell a))
     (from : (b : B) → Fits' b → (a : A) × (make a ≡ b) × Fits a)
     (exact : Exact spell Fits read) where
-
   spelled : (b : B) (fits : Fits' b) → spell' b ≡ spell (from b fits).0
   spelled b fits =
       let a = from b fits in
@@ -142,7 +141,6 @@ module _ {A B : Type 0} (spell : A → List ℕ) (Fits : A → Type 0) (read : L
 
 module _ {A B : Type 0} (spell : A → List ℕ) (Fits : A → Type 0) (read : List ℕ → Reading A) (spell' : A → B → List ℕ) (Fits' : A → B → Type 0) (read' : A → List ℕ → Reading B)
     (exact : Exact spell Fits read) (exact' : (a : A) → Fits a → Exact (spell' a) (Fits' a) (read' a)) where
-
   abbrev both : A × B → List ℕ
   both p = spell p.0 ++ spell' p.0 p.1
 
@@ -189,13 +187,13 @@ module _ {A B : Type 0} (spell : A → List ℕ) (Fits : A → Type 0) (read : L
         more = s.more ++ spell' s.value b.0;
         goes_on = ap (λ (l : List ℕ). l ++ spell' s.value b.0) s.goes_on ∙ append_assoc s.front s.more (spell' s.value b.0);
         none = λ p after fits e.
-          let here : spell p.0 ++ spell' p.0 p.1 ≡ (s.front ++ s.byte ∷ []) ++ after = e ∙ sym (append_assoc s.front (s.byte ∷ []) after) in
-          elim (fronts (spell p.0) (spell' p.0 p.1) (s.front ++ s.byte ∷ []) after here) [
-            | inl w ↦ s.none p.0 w.0 fits.0 (w.1 ∙ append_assoc s.front (s.byte ∷ []) w.0)
-            | inr w ↦
-              let whole : bytes ≡ spell p.0 ++ (w.0 ++ s.rest) = s.parts ∙ sym (append_assoc s.front (s.byte ∷ []) s.rest) ∙ ap (λ (l : List ℕ). l ++ s.rest) w.1 ∙ append_assoc (spell p.0) w.0 s.rest in
-              ok_or_err (read bytes) (p.0, w.0 ++ s.rest) (Stray left) (ap read whole ∙ exact.again p.0 (w.0 ++ s.rest) fits.0) r
-          ];
+            let here : spell p.0 ++ spell' p.0 p.1 ≡ (s.front ++ s.byte ∷ []) ++ after = e ∙ sym (append_assoc s.front (s.byte ∷ []) after) in
+            elim (fronts (spell p.0) (spell' p.0 p.1) (s.front ++ s.byte ∷ []) after here) [
+              | inl w ↦ s.none p.0 w.0 fits.0 (w.1 ∙ append_assoc s.front (s.byte ∷ []) w.0)
+              | inr w ↦
+                  let whole : bytes ≡ spell p.0 ++ (w.0 ++ s.rest) = s.parts ∙ sym (append_assoc s.front (s.byte ∷ []) s.rest) ∙ ap (λ (l : List ℕ). l ++ s.rest) w.1 ∙ append_assoc (spell p.0) w.0 s.rest in
+                  ok_or_err (read bytes) (p.0, w.0 ++ s.rest) (Stray left) (ap read whole ∙ exact.again p.0 (w.0 ++ s.rest) fits.0) r
+            ];
       }
   first_stops bytes NoMemory r s = s
 
@@ -219,12 +217,12 @@ module _ {A B : Type 0} (spell : A → List ℕ) (Fits : A → Type 0) (read : L
     more = s.more;
     goes_on = ap (λ (l : List ℕ). spell a ++ l) s.goes_on ∙ sym (append_assoc (spell a) s.front s.more);
     none = λ p next fits' q.
-      let whole : spell p.0 ++ spell' p.0 p.1 ≡ spell a ++ (s.front ++ s.byte ∷ next) = q ∙ append_assoc (spell a) s.front (s.byte ∷ next) in
-      let one : done (p.0, spell' p.0 p.1) ≡ done (a, s.front ++ s.byte ∷ next) = sym (exact.again p.0 (spell' p.0 p.1) fits'.0) ∙ ap read whole ∙ exact.again a (s.front ++ s.byte ∷ next) fits in
-      let same = ok_is (p.0, spell' p.0 p.1) (a, s.front ++ s.byte ∷ next) one in
-      let first : p.0 ≡ a = ap (λ (x : A × List ℕ). x.0) same in
-      let second : spell' p.0 p.1 ≡ s.front ++ s.byte ∷ next = ap (λ (x : A × List ℕ). x.1) same in
-      s.none p.1 next (subst (λ (x : A). Fits' x p.1) first fits'.1) (subst (λ (x : A). spell' x p.1 ≡ s.front ++ s.byte ∷ next) first second);
+        let whole : spell p.0 ++ spell' p.0 p.1 ≡ spell a ++ (s.front ++ s.byte ∷ next) = q ∙ append_assoc (spell a) s.front (s.byte ∷ next) in
+        let one : done (p.0, spell' p.0 p.1) ≡ done (a, s.front ++ s.byte ∷ next) = sym (exact.again p.0 (spell' p.0 p.1) fits'.0) ∙ ap read whole ∙ exact.again a (s.front ++ s.byte ∷ next) fits in
+        let same = ok_is (p.0, spell' p.0 p.1) (a, s.front ++ s.byte ∷ next) one in
+        let first : p.0 ≡ a = ap (λ (x : A × List ℕ). x.0) same in
+        let second : spell' p.0 p.1 ≡ s.front ++ s.byte ∷ next = ap (λ (x : A × List ℕ). x.1) same in
+        s.none p.1 next (subst (λ (x : A). Fits' x p.1) first fits'.1) (subst (λ (x : A). spell' x p.1 ≡ s.front ++ s.byte ∷ next) first second);
   }
   second_stops bytes a after NoMemory fits e s = s
 
@@ -233,12 +231,12 @@ module _ {A B : Type 0} (spell : A → List ℕ) (Fits : A → Type 0) (read : L
       elim (bind_err (read bytes) (λ x. read' x.0 x.1 >>= λ y. Ok ((x.0, y.0), y.1)) stop e) [
         | inl r ↦ first_stops bytes stop r (exact.stops bytes stop good r)
         | inr x ↦
-          let f = exact.found bytes x.0.0 x.0.1 good x.1 in
-          let good' : IsBytes x.0.1 = IsBytes-back (spell x.0.0) x.0.1 (subst IsBytes f.1 good) in
-          elim (bind_err (read' x.0.0 x.0.1) (λ y. Ok ((x.0.0, y.0), y.1)) stop x.2) [
-            | inl r ↦ second_stops bytes x.0.0 x.0.1 stop f.0 f.1 ((exact' x.0.0 f.0).stops x.0.1 stop good' r)
-            | inr y ↦ absurd (ok_or_err _ _ stop refl y.2)
-          ]
+            let f = exact.found bytes x.0.0 x.0.1 good x.1 in
+            let good' : IsBytes x.0.1 = IsBytes-back (spell x.0.0) x.0.1 (subst IsBytes f.1 good) in
+            elim (bind_err (read' x.0.0 x.0.1) (λ y. Ok ((x.0.0, y.0), y.1)) stop x.2) [
+              | inl r ↦ second_stops bytes x.0.0 x.0.1 stop f.0 f.1 ((exact' x.0.0 f.0).stops x.0.1 stop good' r)
+              | inr y ↦ absurd (ok_or_err _ _ stop refl y.2)
+            ]
       ]
 
   pub turn : Exact both Both (in_turn read read')
@@ -261,7 +259,6 @@ made_image {A} {B} spell Fits read spell' make same exact = made spell Fits read
 module _ {A : Type 0} (spell : A → List ℕ) (Fits : A → Type 0) (read : List ℕ → Reading A) (spell' : A → List ℕ) (Fits' : A → Type 0)
     (to : (a : A) → Fits a → Fits' a) (from : (a : A) → Fits' a → Fits a) (same : (a : A) → spell' a ≡ spell a)
     (exact : Exact spell Fits read) where
-
   respelled_stops : (bytes : List ℕ) (stop : Stop) → StopsAt spell Fits bytes stop → StopsAt spell' Fits' bytes stop
   respelled_stops bytes stop s = made_stops spell Fits read spell' Fits' (λ a. a) (λ a fits. (to a fits, same a)) (λ a fits. (a, refl, from a fits)) exact bytes stop s
 
@@ -270,8 +267,8 @@ module _ {A : Type 0} (spell : A → List ℕ) (Fits : A → Type 0) (read : Lis
     some = (exact.some.0, to exact.some.0 exact.some.1);
     again = λ a rest fits. ap (λ (l : List ℕ). read (l ++ rest)) (same a) ∙ exact.again a rest (from a fits);
     found = λ bytes a rest good e.
-      let f = exact.found bytes a rest good e in
-      (to a f.0, f.1 ∙ ap (λ (l : List ℕ). l ++ rest) (sym (same a)));
+        let f = exact.found bytes a rest good e in
+        (to a f.0, f.1 ∙ ap (λ (l : List ℕ). l ++ rest) (sym (same a)));
     stops = λ bytes stop good e. respelled_stops bytes stop (exact.stops bytes stop good e);
   }
 
@@ -288,7 +285,6 @@ module _ {A : Type 0} (kind : A → ℕ) (spell : A → List ℕ) (Fits : A → 
     (empty : read [] ≡ Err Short)
     (each : (tag : ℕ) → Branch spell (Of tag) read tag)
     (some : (a : A) × Fits a) where
-
   abbrev tagged_spelling : A → List ℕ
   tagged_spelling a = kind a ∷ spell a
 
@@ -304,9 +300,9 @@ module _ {A : Type 0} (kind : A → ℕ) (spell : A → List ℕ) (Fits : A → 
   tagged_found (tag ∷ bytes) a rest good e =
       elim (each tag) [
         | inl exact ↦
-          let f = exact.found bytes a rest good.1 e in
-          let o = out tag a f.0 in
-          (o.0, subst (λ (k : ℕ). tag ∷ bytes ≡ k ∷ (spell a ++ rest)) (sym o.1) (ap (λ (l : List ℕ). tag ∷ l) f.1))
+            let f = exact.found bytes a rest good.1 e in
+            let o = out tag a f.0 in
+            (o.0, subst (λ (k : ℕ). tag ∷ bytes ≡ k ∷ (spell a ++ rest)) (sym o.1) (ap (λ (l : List ℕ). tag ∷ l) f.1))
         | inr lost ↦ absurd (ok_or_err (read (tag ∷ bytes)) (a, rest) (Stray (suc (length bytes))) e (lost.0 bytes))
       ]
 
@@ -333,9 +329,9 @@ module _ {A : Type 0} (kind : A → ℕ) (spell : A → List ℕ) (Fits : A → 
         more = s.more;
         goes_on = subst (λ (k : ℕ). k ∷ spell s.value ≡ tag ∷ (s.front ++ s.more)) (sym o.1) (ap (λ (l : List ℕ). tag ∷ l) s.goes_on);
         none = λ a after fits e.
-          let first : kind a ≡ tag = cc in
-          let second : spell a ≡ s.front ++ s.byte ∷ after = cc in
-          s.none a after (subst (λ (k : ℕ). Of k a) first (into a fits)) second;
+            let first : kind a ≡ tag = cc in
+            let second : spell a ≡ s.front ++ s.byte ∷ after = cc in
+            s.none a after (subst (λ (k : ℕ). Of k a) first (into a fits)) second;
       }
   field_stops tag bytes NoMemory s = s
 
@@ -353,8 +349,8 @@ module _ {A : Type 0} (kind : A → ℕ) (spell : A → List ℕ) (Fits : A → 
         more = tagged_spelling some.0;
         goes_on = refl;
         none = λ a after fits q.
-          let first : kind a ≡ tag = cc in
-          none a (subst (λ (k : ℕ). Of k a) first (into a fits));
+            let first : kind a ≡ tag = cc in
+            none a (subst (λ (k : ℕ). Of k a) first (into a fits));
       } in
       subst (λ (s : Stop). StopsAt tagged_spelling Fits (tag ∷ bytes) s) (sym e) here
 

@@ -117,7 +117,7 @@ order_exact : Exact order_spelling FitsOrder order_at
 unfolding order_at
 order_exact =
     respelled_by make_order order_spelling FitsOrder (λ o. (o.id, (o.word, (o.first_address, (o.wish, o.digest))))) (λ x. refl) (λ o. refl) (λ x fits. fits) (λ o fits. fits)
-      (next id_exact (next (text_exact 64 (omega arith)) (next (text_exact 4096 (omega arith)) (next (text_exact 255 (omega arith)) (optional_exact digest IsDigest digest_at digest_exact)))))
+    (next id_exact (next (text_exact 64 (omega arith)) (next (text_exact 4096 (omega arith)) (next (text_exact 255 (omega arith)) (optional_exact digest IsDigest digest_at digest_exact)))))
 
 abbrev make_course : Epoch × (Attempt × (ℕ × Bool)) → Course
 make_course x = record { epoch = x.0; attempt = x.1.0; autos = x.1.1.0; begun = x.1.1.1 }
@@ -132,7 +132,7 @@ course_exact : Exact course_spelling FitsCourse course_at
 unfolding course_at
 course_exact =
     respelled_by make_course course_spelling FitsCourse (λ c. (c.epoch, (c.attempt, (c.autos, c.begun)))) (λ x. refl) (λ c. refl) (λ x fits. fits) (λ c fits. fits)
-      (next epoch_exact (next attempt_exact (next u32_exact flag_exact)))
+    (next epoch_exact (next attempt_exact (next u32_exact flag_exact)))
 
 abbrev make_told : Option Key × (Option (List ℕ) × (Option ℕ × (Option (List ℕ) × Option (List ℕ)))) → Told
 make_told x = record { key = x.0; last_address = x.1.0; total = x.1.1.0; name = x.1.1.1.0; modified = x.1.1.1.1 }
@@ -150,8 +150,8 @@ told_exact : Exact told_spelling FitsTold told_at
 unfolding told_at
 told_exact =
     respelled_by make_told told_spelling FitsTold (λ t. (t.key, (t.last_address, (t.total, (t.name, t.modified))))) (λ x. refl) (λ t. refl) (λ x fits. fits) (λ t fits. fits)
-      (next (optional_exact key FitsKey key_at key_exact) (next (optional_exact text (Limited 4096) (text_at 4096) (text_exact 4096 (omega arith))) (next (optional_exact (number w64) (λ n. n < 2 ^ 64) (number_at w64) u64_exact)
-        (next (optional_exact text (Limited 255) (text_at 255) (text_exact 255 (omega arith))) (optional_exact text (Limited 128) (text_at 128) (text_exact 128 (omega arith)))))))
+    (next (optional_exact key FitsKey key_at key_exact) (next (optional_exact text (Limited 4096) (text_at 4096) (text_exact 4096 (omega arith))) (next (optional_exact (number w64) (λ n. n < 2 ^ 64) (number_at w64) u64_exact)
+    (next (optional_exact text (Limited 255) (text_at 255) (text_exact 255 (omega arith))) (optional_exact text (Limited 128) (text_at 128) (text_exact 128 (omega arith)))))))
 
 abbrev make_kept : List Slice × (Option (List ℕ) × ℕ) → Kept
 make_kept x = record { slices = x.0; have = x.1.0; at_ms = x.1.1 }
@@ -166,7 +166,7 @@ kept_exact : Exact kept_spelling FitsKept kept_at
 unfolding kept_at
 kept_exact =
     respelled_by make_kept kept_spelling FitsKept (λ k. (k.slices, (k.have, k.at_ms))) (λ x. refl) (λ k. refl) (λ x fits. fits) (λ k fits. fits)
-      (next slices_exact (next (optional_exact digest IsDigest digest_at digest_exact) u64_exact))
+    (next slices_exact (next (optional_exact digest IsDigest digest_at digest_exact) u64_exact))
 
 if_both : {A : Type 0} (P Q : A → Type 0) (o : Option A) → IfSome o P → IfSome o Q → IfSome o (λ a. P a × Q a)
 if_both P Q None p q = tt
@@ -184,8 +184,16 @@ abbrev ItemParts : Type 0
 ItemParts = Order × ((Phase × Option Reason) × (Course × (Told × Kept)))
 
 abbrev parts_of : Item → ItemParts
-parts_of i = (record { id = i.id; word = i.word; first_address = i.first_address; wish = i.wish; digest = i.digest }, ((i.phase, i.reason), (record { epoch = i.epoch; attempt = i.attempt; autos = i.autos; begun = i.begun },
-  (record { key = i.key; last_address = i.last_address; total = i.total; name = i.name; modified = i.modified }, record { slices = i.slices; have = i.have; at_ms = i.at_ms }))))
+parts_of i = (
+  record { id = i.id; word = i.word; first_address = i.first_address; wish = i.wish; digest = i.digest },
+  (
+    (i.phase, i.reason),
+    (
+      record { epoch = i.epoch; attempt = i.attempt; autos = i.autos; begun = i.begun },
+      (record { key = i.key; last_address = i.last_address; total = i.total; name = i.name; modified = i.modified }, record { slices = i.slices; have = i.have; at_ms = i.at_ms }),
+    ),
+  ),
+)
 
 abbrev FitsParts : ItemParts → Type 0
 FitsParts x = FitsOrder x.0 × (FitsPhase x.1.0 × (FitsCourse x.1.1.0 × (FitsTold x.1.1.1.0 × FitsKept x.1.1.1.1)))
@@ -196,44 +204,55 @@ parts_to x f =
     let course = f.1.1.0 in
     let t = x.1.1.1.0 in
     let told = f.1.1.1.0 in
-    let kept = f.1.1.1.1 in
-    (record {
-      word = order.1.0.0;
-      first_address = order.1.1.0.0;
-      wish = order.1.1.1.0.0;
-      reason = f.1.0;
-      key = if_left IsTag IsKey t.key told.0;
-      last_address = if_left (AtMost 4096) IsBytes t.last_address told.1.0;
-      name = if_left (AtMost 255) IsBytes t.name told.1.1.1.0;
-      modified = if_left (AtMost 128) IsBytes t.modified told.1.1.1.1;
-      slices = kept.0.0;
-    }, record {
-      id = order.0;
-      word = order.1.0.1;
-      first_address = order.1.1.0.1;
-      wish = order.1.1.1.0.1;
-      digest = order.1.1.1.1;
-      epoch = course.0;
-      attempt = course.1.0;
-      autos = course.1.1.0;
-      key = if_right IsTag IsKey t.key told.0;
-      last_address = if_right (AtMost 4096) IsBytes t.last_address told.1.0;
-      total = told.1.1.0;
-      name = if_right (AtMost 255) IsBytes t.name told.1.1.1.0;
-      modified = if_right (AtMost 128) IsBytes t.modified told.1.1.1.1;
-      slices = kept.0.1;
-      have = kept.1.0;
-      at_ms = kept.1.1;
-    })
+    let kept = f.1.1.1.1 in (
+      record {
+        word = order.1.0.0;
+        first_address = order.1.1.0.0;
+        wish = order.1.1.1.0.0;
+        reason = f.1.0;
+        key = if_left IsTag IsKey t.key told.0;
+        last_address = if_left (AtMost 4096) IsBytes t.last_address told.1.0;
+        name = if_left (AtMost 255) IsBytes t.name told.1.1.1.0;
+        modified = if_left (AtMost 128) IsBytes t.modified told.1.1.1.1;
+        slices = kept.0.0;
+      },
+      record {
+        id = order.0;
+        word = order.1.0.1;
+        first_address = order.1.1.0.1;
+        wish = order.1.1.1.0.1;
+        digest = order.1.1.1.1;
+        epoch = course.0;
+        attempt = course.1.0;
+        autos = course.1.1.0;
+        key = if_right IsTag IsKey t.key told.0;
+        last_address = if_right (AtMost 4096) IsBytes t.last_address told.1.0;
+        total = told.1.1.0;
+        name = if_right (AtMost 255) IsBytes t.name told.1.1.1.0;
+        modified = if_right (AtMost 128) IsBytes t.modified told.1.1.1.1;
+        slices = kept.0.1;
+        have = kept.1.0;
+        at_ms = kept.1.1;
+      },
+    )
 
 parts_from : (x : ItemParts) → IsEntry (make_restored x) → FitsParts x
 parts_from x f =
     let s = f.0 in
     let r = f.1 in
-    let t = x.1.1.1.0 in
-    ((r.id, ((s.word, r.word), ((s.first_address, r.first_address), ((s.wish, r.wish), r.digest)))), (s.reason, ((r.epoch, (r.attempt, (r.autos, tt))),
-      ((if_both IsTag IsKey t.key s.key r.key, (if_both (AtMost 4096) IsBytes t.last_address s.last_address r.last_address, (r.total, (if_both (AtMost 255) IsBytes t.name s.name r.name, if_both (AtMost 128) IsBytes t.modified s.modified r.modified)))),
-        ((s.slices, r.slices), (r.have, r.at_ms))))))
+    let t = x.1.1.1.0 in (
+      (r.id, ((s.word, r.word), ((s.first_address, r.first_address), ((s.wish, r.wish), r.digest)))),
+      (
+        s.reason,
+        (
+          (r.epoch, (r.attempt, (r.autos, tt))),
+          (
+            (if_both IsTag IsKey t.key s.key r.key, (if_both (AtMost 4096) IsBytes t.last_address s.last_address r.last_address, (r.total, (if_both (AtMost 255) IsBytes t.name s.name r.name, if_both (AtMost 128) IsBytes t.modified s.modified r.modified)))),
+            ((s.slices, r.slices), (r.have, r.at_ms)),
+          ),
+        ),
+      ),
+    )
 
 restored_exact : Exact fields_of (Made make_restored) restored_at
 unfolding restored_at

@@ -63,8 +63,8 @@ unfolding run_at
 run_at_stops n bytes stop good e =
     elim (cases_lt (length bytes) n) [
       | inl short ↦
-        let is : Short ≡ stop = same_stop (run_at n bytes) Short stop (rw (lt-ltb (length bytes) n short) refl) e in
-        subst (λ (s : Stop). StopsAt as_is (IsRun n) bytes s) is (run_stops n bytes good short)
+          let is : Short ≡ stop = same_stop (run_at n bytes) Short stop (rw (lt-ltb (length bytes) n short) refl) e in
+          subst (λ (s : Stop). StopsAt as_is (IsRun n) bytes s) is (run_stops n bytes good short)
       | inr long ↦ absurd (ok_or_err (run_at n bytes) (take n bytes, drop n bytes) stop (rw (le-ltb (length bytes) n long) refl) e)
     ]
 
@@ -74,10 +74,10 @@ run_at_found n bytes value rest good e =
     elim (cases_lt (length bytes) n) [
       | inl short ↦ absurd (ok_or_err (run_at n bytes) (value, rest) Short e (rw (lt-ltb (length bytes) n short) refl))
       | inr long ↦
-        let one : run_at n bytes ≡ Ok (take n bytes, drop n bytes) = rw (le-ltb (length bytes) n long) refl in
-        let parts : bytes ≡ take n bytes ++ drop n bytes = sym (take-append-drop n bytes) in
-        let whole : IsRun n (take n bytes) × (bytes ≡ take n bytes ++ drop n bytes) = ((omega (arith, length-take n bytes), IsBytes-front (take n bytes) (drop n bytes) (subst IsBytes parts good)), parts) in
-        subst (λ (x : List ℕ × List ℕ). IsRun n x.0 × (bytes ≡ x.0 ++ x.1)) (ok_is (take n bytes, drop n bytes) (value, rest) (sym one ∙ e)) whole
+          let one : run_at n bytes ≡ Ok (take n bytes, drop n bytes) = rw (le-ltb (length bytes) n long) refl in
+          let parts : bytes ≡ take n bytes ++ drop n bytes = sym (take-append-drop n bytes) in
+          let whole : IsRun n (take n bytes) × (bytes ≡ take n bytes ++ drop n bytes) = ((omega (arith, length-take n bytes), IsBytes-front (take n bytes) (drop n bytes) (subst IsBytes parts good)), parts) in
+          subst (λ (x : List ℕ × List ℕ). IsRun n x.0 × (bytes ≡ x.0 ++ x.1)) (ok_is (take n bytes, drop n bytes) (value, rest) (sym one ∙ e)) whole
     ]
 
 run_at_again : (n : ℕ) (value rest : List ℕ) → IsRun n value → run_at n (value ++ rest) ≡ Ok (value, rest)
@@ -125,9 +125,9 @@ pub number_exact : (w : Width) (limit : ℕ) → IsWide w limit → Exact (numbe
 unfolding number number_at
 number_exact w limit wide =
     made as_is (IsRun (byte_len w)) (run_at (byte_len w)) (number w) (λ n. n < limit) (from_be_bytes w)
-      (λ bytes run. (wide.below bytes run.1, wide.back bytes run))
-      (λ n lt. (to_be_bytes w n, wide.again n lt, (wide.len n, wide.bytes n)))
-      (run_exact (byte_len w))
+    (λ bytes run. (wide.below bytes run.1, wide.back bytes run))
+    (λ n lt. (to_be_bytes w n, wide.again n lt, (wide.len n, wide.bytes n)))
+    (run_exact (byte_len w))
 
 -- ---- a byte that has a meaning
 
@@ -156,18 +156,17 @@ pub one_exact : {A : Type 0} (a : A) (spell : A → List ℕ) (Of : A → Type 0
 one_exact {A} a spell Of none here only = record {
   some = (a, here);
   again = λ b rest fits.
-    let same = only b fits in
-    let no_bytes : spell b ++ rest ≡ rest = ap (λ (l : List ℕ). l ++ rest) (ap spell same ∙ none) in
-    ap (λ (l : List ℕ). same_done (a, l)) no_bytes ∙ ap (λ (x : A). same_done (x, rest)) (sym same);
+      let same = only b fits in
+      let no_bytes : spell b ++ rest ≡ rest = ap (λ (l : List ℕ). l ++ rest) (ap spell same ∙ none) in
+      ap (λ (l : List ℕ). same_done (a, l)) no_bytes ∙ ap (λ (x : A). same_done (x, rest)) (sym same);
   found = λ bytes b rest good e.
-    let same = ok_is (a, bytes) (b, rest) e in
-    let here' : Of a × (bytes ≡ spell a ++ bytes) = (here, ap (λ (l : List ℕ). l ++ bytes) (sym none)) in
-    subst (λ (x : A × List ℕ). Of x.0 × (bytes ≡ spell x.0 ++ x.1)) same here';
+      let same = ok_is (a, bytes) (b, rest) e in
+      let here' : Of a × (bytes ≡ spell a ++ bytes) = (here, ap (λ (l : List ℕ). l ++ bytes) (sym none)) in
+      subst (λ (x : A × List ℕ). Of x.0 × (bytes ≡ spell x.0 ++ x.1)) same here';
   stops = λ bytes stop good e. absurd (ok_or_err _ (a, bytes) stop refl e);
 }
 
 module _ {A : Type 0} (code : A → ℕ) (Fits : A → Type 0) (decode : ℕ → Option A) (is : IsCode code Fits decode) where
-
   abbrev Coded : ℕ → A → Type 0
   Coded tag a = Fits a × (code a ≡ tag)
 
@@ -208,7 +207,6 @@ halves n below =
     record { high = n / 256; low = n % 256; high_below = h; low_below = l; whole = e; spelled = ap (number w16) e ∙ pair_16 (n / 256) (n % 256) h l }
 
 module _ (limit : ℕ) (below : limit < 2 ^ 16) where
-
   abbrev Kept : ℕ → Type 0
   Kept n = n ≤ limit
 
@@ -235,10 +233,10 @@ module _ (limit : ℕ) (below : limit < 2 ^ 16) where
         | inr room ↦ elim (cases_lt limit (256 * high + low)) [
           | inl over ↦ absurd (ok_or_err _ (n, rest) (Stray (suc (length bytes))) e (rw (le-ltb limit (256 * high) room, lt-ltb limit (256 * high + low) over) refl))
           | inr fits ↦
-            let one : length_at limit (high ∷ low ∷ bytes) ≡ Ok (256 * high + low, bytes) = rw (le-ltb limit (256 * high) room, le-ltb limit (256 * high + low) fits) refl in
-            let parts : high ∷ low ∷ bytes ≡ number w16 (256 * high + low) ++ bytes = ap (λ (l : List ℕ). l ++ bytes) (sym (pair_16 high low good.0 good.1.0)) in
-            let here : Kept (256 * high + low) × (high ∷ low ∷ bytes ≡ number w16 (256 * high + low) ++ bytes) = (fits, parts) in
-            subst (λ (x : ℕ × List ℕ). Kept x.0 × (high ∷ low ∷ bytes ≡ number w16 x.0 ++ x.1)) (ok_is (256 * high + low, bytes) (n, rest) (sym one ∙ e)) here
+              let one : length_at limit (high ∷ low ∷ bytes) ≡ Ok (256 * high + low, bytes) = rw (le-ltb limit (256 * high) room, le-ltb limit (256 * high + low) fits) refl in
+              let parts : high ∷ low ∷ bytes ≡ number w16 (256 * high + low) ++ bytes = ap (λ (l : List ℕ). l ++ bytes) (sym (pair_16 high low good.0 good.1.0)) in
+              let here : Kept (256 * high + low) × (high ∷ low ∷ bytes ≡ number w16 (256 * high + low) ++ bytes) = (fits, parts) in
+              subst (λ (x : ℕ × List ℕ). Kept x.0 × (high ∷ low ∷ bytes ≡ number w16 x.0 ++ x.1)) (ok_is (256 * high + low, bytes) (n, rest) (sym one ∙ e)) here
         ]
       ]
 
@@ -255,11 +253,11 @@ module _ (limit : ℕ) (below : limit < 2 ^ 16) where
     more = number w16 0;
     goes_on = refl;
     none = λ n after fits e.
-      let h = halves n (omega arith) in
-      let same : h.high ∷ h.low ∷ [] ≡ high ∷ after = sym h.spelled ∙ e in
-      let first : h.high ≡ high = cc in
-      let whole : n ≡ 256 * h.high + h.low = h.whole in
-      omega (arith, first, whole);
+        let h = halves n (omega arith) in
+        let same : h.high ∷ h.low ∷ [] ≡ high ∷ after = sym h.spelled ∙ e in
+        let first : h.high ≡ high = cc in
+        let whole : n ≡ 256 * h.high + h.low = h.whole in
+        omega (arith, first, whole);
   }
 
   low_strays : (high low : ℕ) (bytes : List ℕ) → high < 256 → low < 256 → 256 * high ≤ limit → limit < 256 * high + low → Strays (number w16) Kept (high ∷ low ∷ bytes) (suc (length bytes))
@@ -274,12 +272,12 @@ module _ (limit : ℕ) (below : limit < 2 ^ 16) where
     more = 0 ∷ [];
     goes_on = pair_16 high 0 h (lit< tt);
     none = λ n after fits e.
-      let p = halves n (omega arith) in
-      let same : p.high ∷ p.low ∷ [] ≡ high ∷ low ∷ after = sym p.spelled ∙ e in
-      let first : p.high ≡ high = cc in
-      let second : p.low ≡ low = cc in
-      let whole : n ≡ 256 * p.high + p.low = p.whole in
-      omega (arith, first, second, whole);
+        let p = halves n (omega arith) in
+        let same : p.high ∷ p.low ∷ [] ≡ high ∷ low ∷ after = sym p.spelled ∙ e in
+        let first : p.high ≡ high = cc in
+        let second : p.low ≡ low = cc in
+        let whole : n ≡ 256 * p.high + p.low = p.whole in
+        omega (arith, first, second, whole);
   }
 
   length_cut : (high : ℕ) → high < 256 → 256 * high ≤ limit → Cut (number w16) Kept (high ∷ [])
@@ -318,14 +316,13 @@ module _ (limit : ℕ) (below : limit < 2 ^ 16) where
   unfolding text_at
   text_exact =
       made (λ (x : ℕ × List ℕ). number w16 x.0 ++ x.1) (λ (x : ℕ × List ℕ). Kept x.0 × IsRun x.0 x.1) (in_turn (length_at limit) run_at) text IsText (λ (x : ℕ × List ℕ). x.1)
-        (λ x fits. ((omega (arith, fits.0, fits.1.0), fits.1.1), ap (λ (n : ℕ). number w16 n ++ x.1) fits.1.0))
-        (λ bytes fits. ((length bytes, bytes), refl, (fits.0, (refl, fits.1))))
-        (turn (number w16) Kept (length_at limit) (λ (n : ℕ) (t : List ℕ). t) IsRun run_at length_exact (λ n _. run_exact n))
+      (λ x fits. ((omega (arith, fits.0, fits.1.0), fits.1.1), ap (λ (n : ℕ). number w16 n ++ x.1) fits.1.0))
+      (λ bytes fits. ((length bytes, bytes), refl, (fits.0, (refl, fits.1))))
+      (turn (number w16) Kept (length_at limit) (λ (n : ℕ) (t : List ℕ). t) IsRun run_at length_exact (λ n _. run_exact n))
 
 -- ---- a field that may be absent
 
 module _ {A : Type 0} (spell : A → List ℕ) (Fits : A → Type 0) (read : List ℕ → Reading A) (exact : Exact spell Fits read) where
-
   abbrev there_byte : Option A → ℕ
   there_byte None = 0
   there_byte (Some a) = 1

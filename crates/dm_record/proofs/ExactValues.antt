@@ -36,6 +36,7 @@ flag_code = record { some = (false, tt); again = flag_again; back = flag_back }
     flag_again : (b : Bool) → Unit {0} → flag_of (flag_byte b) ≡ Some b
     flag_again true fits = refl
     flag_again false fits = refl
+
     flag_back : (tag : ℕ) (b : Bool) → flag_of tag ≡ Some b → Unit {0} × (flag_byte b ≡ tag)
     flag_back zero true e = absurd cc
     flag_back zero false e = (tt, refl)
@@ -49,6 +50,7 @@ by_code = record { some = (User, tt); again = by_again; back = by_back }
     by_again : (b : By) → Unit {0} → by_of (by_byte b) ≡ Some b
     by_again User fits = refl
     by_again Itself fits = refl
+
     by_back : (tag : ℕ) (b : By) → by_of tag ≡ Some b → Unit {0} × (by_byte b ≡ tag)
     by_back zero b e = absurd cc
     by_back (suc zero) User e = (tt, refl)
@@ -70,16 +72,16 @@ within_back : (low high tag n : ℕ) → within low high tag ≡ Some n → Betw
 within_back low high tag n e =
     elim (cases_lt tag low) [
       | inl below ↦
-        let none : within low high tag ≡ None = rw (lt-ltb tag low below) refl in
-        absurd cc
+          let none : within low high tag ≡ None = rw (lt-ltb tag low below) refl in
+          absurd cc
       | inr above ↦ elim (cases_lt high tag) [
         | inl over ↦
-          let none : within low high tag ≡ None = rw (le-ltb tag low above, lt-ltb high tag over) refl in
-          absurd cc
+            let none : within low high tag ≡ None = rw (le-ltb tag low above, lt-ltb high tag over) refl in
+            absurd cc
         | inr fits ↦
-          let one : within low high tag ≡ Some tag = rw (le-ltb tag low above, le-ltb high tag fits) refl in
-          let is : tag ≡ n = cc in
-          subst (λ (m : ℕ). Between low high m × (m ≡ tag)) is ((above, fits), refl)
+            let one : within low high tag ≡ Some tag = rw (le-ltb tag low above, le-ltb high tag fits) refl in
+            let is : tag ≡ n = cc in
+            subst (λ (m : ℕ). Between low high m × (m ≡ tag)) is ((above, fits), refl)
       ]
     ]
 
@@ -183,9 +185,9 @@ pub reason_exact : Exact reason Anything reason_at
 unfolding reason_at
 reason_exact =
     made (λ (x : ℕ × Reason). x.0 ∷ code_of x.1 ∷ []) (λ (x : ℕ × Reason). Between 0 0 x.0 × Unit {0}) (in_turn (coded_at (within 0 0)) (λ _. coded_at reason_of)) reason Anything (λ (x : ℕ × Reason). x.1)
-      (λ x fits. (tt, reason_bytes x.1 ∙ ap (λ (n : ℕ). n ∷ code_of x.1 ∷ []) (sym (only_zero x.0 fits.0))))
-      (λ r fits. ((0, r), refl, ((omega arith, omega arith), tt)))
-      (next (within_exact 0 0 (omega arith)) (coded_exact code_of (λ _. Unit {0}) reason_of reason_code))
+    (λ x fits. (tt, reason_bytes x.1 ∙ ap (λ (n : ℕ). n ∷ code_of x.1 ∷ []) (sym (only_zero x.0 fits.0))))
+    (λ r fits. ((0, r), refl, ((omega arith, omega arith), tt)))
+    (next (within_exact 0 0 (omega arith)) (coded_exact code_of (λ _. Unit {0}) reason_of reason_code))
 
 -- ---- numbers with a name
 
@@ -284,12 +286,11 @@ pub slice_exact : Exact slice IsSlice slice_at
 unfolding slice_at
 slice_exact =
     made (λ (x : ℕ × (ℕ × Bool)). number w64 x.0 ++ (number w64 x.1.0 ++ flag_byte x.1.1 ∷ [])) (λ (x : ℕ × (ℕ × Bool)). (x.0 < 2 ^ 64) × ((x.1.0 < 2 ^ 64) × Unit {0})) (in_turn (number_at w64) (λ _. in_turn (number_at w64) (λ _. coded_at flag_of))) slice IsSlice make_slice
-      (λ x fits. ((fits.0, fits.1.0), refl))
-      (λ s fits. ((s.first, (s.got, s.finished)), refl, (fits.0, (fits.1, tt))))
-      (next u64_exact (next u64_exact flag_exact))
+    (λ x fits. ((fits.0, fits.1.0), refl))
+    (λ s fits. ((s.first, (s.got, s.finished)), refl, (fits.0, (fits.1, tt))))
+    (next u64_exact (next u64_exact flag_exact))
 
 module _ {A : Type 0} (spell : A → List ℕ) (Fits : A → Type 0) (read : List ℕ → Reading A) (exact : Exact spell Fits read) where
-
   abbrev Times : ℕ → List A → Type 0
   Times n xs = (length xs ≡ n) × AllByRecursion Fits xs
 
@@ -306,9 +307,9 @@ module _ {A : Type 0} (spell : A → List ℕ) (Fits : A → Type 0) (read : Lis
   times_exact zero = one_exact [] (flat_map spell) (Times 0) refl (refl, tt) (λ xs fits. nil_is xs fits.0)
   times_exact (suc n) =
       made (λ (x : A × List A). spell x.0 ++ flat_map spell x.1) (λ (x : A × List A). Fits x.0 × Times n x.1) (in_turn read (λ _. times_at read n)) (flat_map spell) (Times (suc n)) (λ (x : A × List A). x.0 ∷ x.1)
-        (λ x fits. ((omega (arith, fits.1.0), (fits.0, fits.1.1)), refl))
-        (cons_from n)
-        (next exact (times_exact n))
+      (λ x fits. ((omega (arith, fits.1.0), (fits.0, fits.1.1)), refl))
+      (cons_from n)
+      (next exact (times_exact n))
 
 abbrev pub FitsSlices : List Slice → Type 0
 FitsSlices xs = IsCount xs × AllByRecursion IsSlice xs
@@ -317,9 +318,9 @@ pub slices_exact : Exact slices FitsSlices slices_at
 unfolding slices_at
 slices_exact =
     made (λ (x : ℕ × List Slice). x.0 ∷ flat_map slice x.1) (λ (x : ℕ × List Slice). Between 1 64 x.0 × Times slice IsSlice slice_at slice_exact x.0 x.1) (in_turn (coded_at (within 1 64)) (times_at slice_at)) slices FitsSlices (λ (x : ℕ × List Slice). x.1)
-      (λ x fits. (((omega (arith, fits.0.0, fits.1.0), omega (arith, fits.0.1, fits.1.0)), fits.1.1), ap (λ (n : ℕ). n ∷ flat_map slice x.1) fits.1.0))
-      (λ xs fits. ((length xs, xs), refl, (fits.0, (refl, fits.1))))
-      (turn (λ n. n ∷ []) (Between 1 64) (coded_at (within 1 64)) (λ (n : ℕ) (xs : List Slice). flat_map slice xs) (Times slice IsSlice slice_at slice_exact) (times_at slice_at) (within_exact 1 64 (omega arith)) (λ n _. times_exact slice IsSlice slice_at slice_exact n))
+    (λ x fits. (((omega (arith, fits.0.0, fits.1.0), omega (arith, fits.0.1, fits.1.0)), fits.1.1), ap (λ (n : ℕ). n ∷ flat_map slice x.1) fits.1.0))
+    (λ xs fits. ((length xs, xs), refl, (fits.0, (refl, fits.1))))
+    (turn (λ n. n ∷ []) (Between 1 64) (coded_at (within 1 64)) (λ (n : ℕ) (xs : List Slice). flat_map slice xs) (Times slice IsSlice slice_at slice_exact) (times_at slice_at) (within_exact 1 64 (omega arith)) (λ n _. times_exact slice IsSlice slice_at slice_exact n))
 
 -- ---- a phase and its reason
 
@@ -390,9 +391,9 @@ interrupted_exact : Exact reason_field (PhaseOf 7) interrupted_at
 unfolding interrupted_at make_interrupted
 interrupted_exact =
     made (λ (x : ℕ × Reason). x.0 ∷ reason x.1) (λ (x : ℕ × Reason). Between 1 1 x.0 × Unit {0}) (in_turn (coded_at (within 1 1)) (λ _. reason_at)) reason_field (PhaseOf 7) make_interrupted
-      (λ x fits. ((x.1, refl), ap (λ (n : ℕ). n ∷ reason x.1) (sym (only_one x.0 fits.0))))
-      (λ p of. ((1, of.0), of.1, ((omega arith, omega arith), tt)))
-      (next (within_exact 1 1 (omega arith)) reason_exact)
+    (λ x fits. ((x.1, refl), ap (λ (n : ℕ). n ∷ reason x.1) (sym (only_one x.0 fits.0))))
+    (λ p of. ((1, of.0), of.1, ((omega arith, omega arith), tt)))
+    (next (within_exact 1 1 (omega arith)) reason_exact)
 
 phase_branch : (tag : ℕ) → Branch reason_field (PhaseOf tag) phase_at tag
 unfolding phase_at

@@ -108,7 +108,7 @@ cut_begins bytes n cut =
 cut_or_whole : (bytes : List ℕ) → IsCut bytes → BeginsWithEntry bytes → ⊥
 cut_or_whole bytes cut whole =
     let longer : spelling_of cut.0 ++ [] ≡ spelling_of whole.0 ++ (whole.1 ++ cut.1 ∷ cut.2) =
-      append-nil (spelling_of cut.0) ∙ cut.4 ∙ ap (λ (l : List ℕ). l ++ cut.1 ∷ cut.2) whole.3 ∙ append_assoc (spelling_of whole.0) whole.1 (cut.1 ∷ cut.2) in
+    append-nil (spelling_of cut.0) ∙ cut.4 ∙ ap (λ (l : List ℕ). l ++ cut.1 ∷ cut.2) whole.3 ∙ append_assoc (spelling_of whole.0) whole.1 (cut.1 ∷ cut.2) in
     let same = one_spelling cut.0 whole.0 [] (whole.1 ++ cut.1 ∷ cut.2) cut.3 whole.2 longer in
     let size : 0 ≡ length whole.1 + suc (length cut.2) = ap length same.1 ∙ length-append whole.1 (cut.1 ∷ cut.2) in
     omega arith

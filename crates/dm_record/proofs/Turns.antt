@@ -10,7 +10,6 @@ abbrev pub with_front : {A : Type 0} → List A → Reading (List A) → Reading
 with_front front read = read >>= λ x. Ok (front ++ x.0, x.1)
 
 module _ {A : Type 0} (field : List ℕ → Reading A) where
-
   step : (front : List A) (n : ℕ) (bytes : List ℕ) (value : A) (after : List ℕ) (read : Reading (List A)) → field bytes ≡ Ok (value, after) → times_at field n after ≡ read
       → with_front front (times_at field (suc n) bytes) ≡ with_front (front ++ value ∷ []) read
   unfolding times_at

@@ -243,15 +243,15 @@ asked_at bytes = made_by Asked id_at bytes
 
 unfoldable pub order_at : List ℕ → Reading Order
 order_at bytes = made_by (λ x. record { id = x.0; word = x.1.0; first_address = x.1.1.0; wish = x.1.1.1.0; digest = x.1.1.1.1 })
-  (in_turn id_at (λ _. in_turn (text_at 64) (λ _. in_turn (text_at 4096) (λ _. in_turn (text_at 255) (λ _. optional_at digest_at))))) bytes
+    (in_turn id_at (λ _. in_turn (text_at 64) (λ _. in_turn (text_at 4096) (λ _. in_turn (text_at 255) (λ _. optional_at digest_at))))) bytes
 
 unfoldable pub course_at : List ℕ → Reading Course
 course_at bytes = made_by (λ x. record { epoch = x.0; attempt = x.1.0; autos = x.1.1.0; begun = x.1.1.1 })
-  (in_turn epoch_at (λ _. in_turn attempt_at (λ _. in_turn (number_at w32) (λ _. coded_at flag_of)))) bytes
+    (in_turn epoch_at (λ _. in_turn attempt_at (λ _. in_turn (number_at w32) (λ _. coded_at flag_of)))) bytes
 
 unfoldable pub told_at : List ℕ → Reading Told
 told_at bytes = made_by (λ x. record { key = x.0; last_address = x.1.0; total = x.1.1.0; name = x.1.1.1.0; modified = x.1.1.1.1 })
-  (in_turn (optional_at key_at) (λ _. in_turn (optional_at (text_at 4096)) (λ _. in_turn (optional_at (number_at w64)) (λ _. in_turn (optional_at (text_at 255)) (λ _. optional_at (text_at 128)))))) bytes
+    (in_turn (optional_at key_at) (λ _. in_turn (optional_at (text_at 4096)) (λ _. in_turn (optional_at (number_at w64)) (λ _. in_turn (optional_at (text_at 255)) (λ _. optional_at (text_at 128)))))) bytes
 
 unfoldable pub kept_at : List ℕ → Reading Kept
 kept_at bytes = made_by (λ x. record { slices = x.0; have = x.1.0; at_ms = x.1.1 }) (in_turn slices_at (λ _. in_turn (optional_at digest_at) (λ _. number_at w64))) bytes

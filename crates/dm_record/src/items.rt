@@ -83,7 +83,14 @@ fn read_kept(alloc: Global, bytes: &[u8]) -> Result<(Kept, &[u8]), Stop>
 }
 
 /// The item of these parts.
-fn item_of(order: Order, phase: Phase, reason: Option<Reason>, course: Course, told: Told, kept: Kept) -> Item
+fn item_of(
+    order: Order,
+    phase: Phase,
+    reason: Option<Reason>,
+    course: Course,
+    told: Told,
+    kept: Kept,
+) -> Item
     ensures { result ≡ make_item (order, ((phase, reason), (course, (told, kept)))) }
 {
     let Order {

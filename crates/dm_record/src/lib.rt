@@ -8,6 +8,8 @@ mod kinds;
 mod parts;
 mod puts;
 mod reader;
+mod writer;
 
 pub use fault::RecordFault;
 pub use reader::read_entry;
+pub use writer::{write_broke, write_entry};

@@ -11,9 +11,10 @@ returns-in_err-slice c =
 
 pub loop-preserved : goal.loop-preserved
 loop-preserved c =
-    rw c.in_ok-push.ensures.ok
-      (omega (arith, length-append c.loop.slices (c.in_ok-slice.slice ∷ []), c.loop.invariant.0),
-        goes_on slice_at c.loop.slices c.args.count c.loop.counter c.loop.rest.now c.in_ok-slice.slice c.in_ok-slice.after.now (times_at slice_at c.args.count c.args.bytes.now) c.loop-test.true c.in_ok-slice.ensures c.loop.invariant.1)
+    rw c.in_ok-push.ensures.ok (
+      omega (arith, length-append c.loop.slices (c.in_ok-slice.slice ∷ []), c.loop.invariant.0),
+      goes_on slice_at c.loop.slices c.args.count c.loop.counter c.loop.rest.now c.in_ok-slice.slice c.in_ok-slice.after.now (times_at slice_at c.args.count c.args.bytes.now) c.loop-test.true c.in_ok-slice.ensures c.loop.invariant.1,
+    )
 
 pub returns : goal.returns
 returns c = is_done slice_at c.loop.slices c.args.count c.loop.counter c.loop.rest.now (times_at slice_at c.args.count c.args.bytes.now) c.loop-test.false c.loop.invariant.1
