@@ -4,3 +4,4 @@ pub mod ExactValues
 pub mod ExactEntries
 pub mod Turns
 pub mod Places
+pub mod Lengths

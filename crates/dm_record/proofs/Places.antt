@@ -151,6 +151,17 @@ bad_answer bytes place (Err faults.Short) bad so never = absurd (cut_or_bad byte
 bad_answer bytes place (Err (faults.Bad other)) bad so never = ap (λ (n : ℕ). Err (faults.Bad n)) (one_place bytes other place so bad)
 bad_answer bytes place (Err faults.NoMemory) bad so never = absurd (never refl)
 
+-- ---- one of three
+
+three_of : (bytes : List ℕ) (answer : Outcome) → Answers bytes answer → (answer ≡ Err faults.NoMemory → ⊥) → BeginsWithEntry bytes ⊎ (IsCut bytes ⊎ ((place : ℕ) × IsBadAt bytes place))
+three_of bytes (Ok x) so never = inl (begins bytes x.0 x.1 so.0 so.2)
+three_of bytes (Err faults.Short) so never = inr (inl so)
+three_of bytes (Err (faults.Bad place)) so never = inr (inr (place, so))
+three_of bytes (Err faults.NoMemory) so never = absurd (never refl)
+
+pub three : (bytes : List ℕ) → IsBytes bytes → BeginsWithEntry bytes ⊎ (IsCut bytes ⊎ ((place : ℕ) × IsBadAt bytes place))
+three bytes good = three_of bytes (record_at bytes) (record_so bytes good) (record_never bytes good)
+
 -- ---- for a result that is the answer, unless memory ran out
 
 pub answers : (bytes : List ℕ) (result : Outcome) → IsBytes bytes → UnlessMemory result (record_at bytes) → Answers bytes result
