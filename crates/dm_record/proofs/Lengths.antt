@@ -1,5 +1,5 @@
 -- How long spellings are.
-use Rattle.std.proofs.Common.{◌≡◌, ℕ, suc, ◌+◌, ◌*◌, ◌<◌, ◌≤◌, List, [], ◌∷◌, ◌++◌, length, Option, Some, None, refl, ap, ◌∙◌, arith, IfSome}
+use Rattle.std.proofs.Common.{◌≡◌, ℕ, suc, ◌+◌, ◌*◌, ◌<◌, ◌≤◌, List, [], ◌∷◌, ◌++◌, length, Option, Some, None, refl, ap, ◌∙◌, arith, subst, sym, Result, Ok, Err, IfOk, IfSome}
 use Rattle.std.specs.Int.{w16, w32, w64}
 use Rattle.std.specs.List.{flat_map}
 use Rattle.std.proofs.lemmas.List.{length-append}
@@ -75,41 +75,99 @@ slices-at_most xs is = omega (arith, length-each xs, is.1)
 
 order-at_most : (i : Item) → IsSpellableItem i → IsItem i → length (order_fields i) ≤ 4458
 order-at_most i s r =
-    omega (arith, length-append (number w32 i.id.0) (text i.word ++ (text i.first_address ++ (text i.wish ++ optional digest i.digest))), length-append (text i.word) (text i.first_address ++ (text i.wish ++ optional digest i.digest)),
-      length-append (text i.first_address) (text i.wish ++ optional digest i.digest), length-append (text i.wish) (optional digest i.digest), n32 i.id.0, text-at_most 64 i.word s.word, text-at_most 4096 i.first_address s.first_address, text-at_most 255 i.wish s.wish, digest-at_most i.digest r.digest)
+    omega (
+      arith,
+      length-append (number w32 i.id.0) (text i.word ++ (text i.first_address ++ (text i.wish ++ optional digest i.digest))),
+      length-append (text i.word) (text i.first_address ++ (text i.wish ++ optional digest i.digest)),
+      length-append (text i.first_address) (text i.wish ++ optional digest i.digest),
+      length-append (text i.wish) (optional digest i.digest),
+      n32 i.id.0,
+      text-at_most 64 i.word s.word,
+      text-at_most 4096 i.first_address s.first_address,
+      text-at_most 255 i.wish s.wish,
+      digest-at_most i.digest r.digest,
+    )
 
 phase-at_most : (i : Item) → length (phase_fields i) ≤ 4
 phase-at_most i = omega (arith, reason-at_most i.reason)
 
 course-at_most : (i : Item) → length (course_fields i) ≤ 13
 course-at_most i =
-    omega (arith, length-append (number w32 i.epoch.0) (number w32 i.attempt.0 ++ (number w32 i.autos ++ flag_byte i.begun ∷ [])), length-append (number w32 i.attempt.0) (number w32 i.autos ++ flag_byte i.begun ∷ []),
-      length-append (number w32 i.autos) (flag_byte i.begun ∷ []), n32 i.epoch.0, n32 i.attempt.0, n32 i.autos)
+    omega (
+      arith,
+      length-append (number w32 i.epoch.0) (number w32 i.attempt.0 ++ (number w32 i.autos ++ flag_byte i.begun ∷ [])),
+      length-append (number w32 i.attempt.0) (number w32 i.autos ++ flag_byte i.begun ∷ []),
+      length-append (number w32 i.autos) (flag_byte i.begun ∷ []),
+      n32 i.epoch.0,
+      n32 i.attempt.0,
+      n32 i.autos,
+    )
 
 told-at_most : (i : Item) → IsSpellableItem i → length (told_fields i) ≤ 5525
 told-at_most i s =
-    omega (arith, length-append (optional key i.key) (optional text i.last_address ++ (optional (number w64) i.total ++ (optional text i.name ++ optional text i.modified))),
-      length-append (optional text i.last_address) (optional (number w64) i.total ++ (optional text i.name ++ optional text i.modified)), length-append (optional (number w64) i.total) (optional text i.name ++ optional text i.modified),
-      length-append (optional text i.name) (optional text i.modified), known_key-at_most i.key s.key, known_text-at_most 4096 i.last_address s.last_address, number-at_most i.total, known_text-at_most 255 i.name s.name, known_text-at_most 128 i.modified s.modified)
+    omega (
+      arith,
+      length-append (optional key i.key) (optional text i.last_address ++ (optional (number w64) i.total ++ (optional text i.name ++ optional text i.modified))),
+      length-append (optional text i.last_address) (optional (number w64) i.total ++ (optional text i.name ++ optional text i.modified)),
+      length-append (optional (number w64) i.total) (optional text i.name ++ optional text i.modified),
+      length-append (optional text i.name) (optional text i.modified),
+      known_key-at_most i.key s.key,
+      known_text-at_most 4096 i.last_address s.last_address,
+      number-at_most i.total,
+      known_text-at_most 255 i.name s.name,
+      known_text-at_most 128 i.modified s.modified,
+    )
 
 kept-at_most : (i : Item) → IsSpellableItem i → IsItem i → length (kept_fields i) ≤ 1130
 kept-at_most i s r = omega (arith, length-append (slices i.slices) (optional digest i.have ++ number w64 i.at_ms), length-append (optional digest i.have) (number w64 i.at_ms), slices-at_most i.slices s.slices, digest-at_most i.have r.have, n64 i.at_ms)
 
 item-at_most : (i : Item) → IsSpellableItem i → IsItem i → length (item_fields i) ≤ 11130
 item-at_most i s r =
-    omega (arith, length-append (order_fields i) (phase_fields i ++ (course_fields i ++ (told_fields i ++ kept_fields i))), length-append (phase_fields i) (course_fields i ++ (told_fields i ++ kept_fields i)), length-append (course_fields i) (told_fields i ++ kept_fields i),
-      length-append (told_fields i) (kept_fields i), order-at_most i s r, phase-at_most i, course-at_most i, told-at_most i s, kept-at_most i s r)
+    omega (
+      arith,
+      length-append (order_fields i) (phase_fields i ++ (course_fields i ++ (told_fields i ++ kept_fields i))),
+      length-append (phase_fields i) (course_fields i ++ (told_fields i ++ kept_fields i)),
+      length-append (course_fields i) (told_fields i ++ kept_fields i),
+      length-append (told_fields i) (kept_fields i),
+      order-at_most i s r,
+      phase-at_most i,
+      course-at_most i,
+      told-at_most i s,
+      kept-at_most i s r,
+    )
 
 fields-at_most : (entry : Entry) → IsEntry entry → length (fields_of entry) ≤ 11130
 fields-at_most (Added id word address wish stated at) is =
-    omega (arith, length-append (number w32 id.0) (text word ++ (text address ++ (text wish ++ (optional digest stated ++ number w64 at)))), length-append (text word) (text address ++ (text wish ++ (optional digest stated ++ number w64 at))),
-      length-append (text address) (text wish ++ (optional digest stated ++ number w64 at)), length-append (text wish) (optional digest stated ++ number w64 at), length-append (optional digest stated) (number w64 at),
-      n32 id.0, text-at_most 64 word is.0.0, text-at_most 4096 address is.0.1, text-at_most 255 wish is.0.2, digest-at_most stated is.1.4, n64 at)
+    omega (
+      arith,
+      length-append (number w32 id.0) (text word ++ (text address ++ (text wish ++ (optional digest stated ++ number w64 at)))),
+      length-append (text word) (text address ++ (text wish ++ (optional digest stated ++ number w64 at))),
+      length-append (text address) (text wish ++ (optional digest stated ++ number w64 at)),
+      length-append (text wish) (optional digest stated ++ number w64 at),
+      length-append (optional digest stated) (number w64 at),
+      n32 id.0,
+      text-at_most 64 word is.0.0,
+      text-at_most 4096 address is.0.1,
+      text-at_most 255 wish is.0.2,
+      digest-at_most stated is.1.4,
+      n64 at,
+    )
 fields-at_most (Began id attempt by at) is = omega (arith, length-append (number w32 id.0) (number w32 attempt.0 ++ by_byte by ∷ number w64 at), length-append (number w32 attempt.0) (by_byte by ∷ number w64 at), n32 id.0, n32 attempt.0, n64 at)
 fields-at_most (Described id k last_address total name modified) is =
-    omega (arith, length-append (number w32 id.0) (key k ++ (text last_address ++ (optional (number w64) total ++ (text name ++ text modified)))), length-append (key k) (text last_address ++ (optional (number w64) total ++ (text name ++ text modified))),
-      length-append (text last_address) (optional (number w64) total ++ (text name ++ text modified)), length-append (optional (number w64) total) (text name ++ text modified), length-append (text name) (text modified),
-      n32 id.0, key-at_most k is.0.0, text-at_most 4096 last_address is.0.1, number-at_most total, text-at_most 255 name is.0.2, text-at_most 128 modified is.0.3)
+    omega (
+      arith,
+      length-append (number w32 id.0) (key k ++ (text last_address ++ (optional (number w64) total ++ (text name ++ text modified)))),
+      length-append (key k) (text last_address ++ (optional (number w64) total ++ (text name ++ text modified))),
+      length-append (text last_address) (optional (number w64) total ++ (text name ++ text modified)),
+      length-append (optional (number w64) total) (text name ++ text modified),
+      length-append (text name) (text modified),
+      n32 id.0,
+      key-at_most k is.0.0,
+      text-at_most 4096 last_address is.0.1,
+      number-at_most total,
+      text-at_most 255 name is.0.2,
+      text-at_most 128 modified is.0.3,
+    )
 fields-at_most (Progress id cover) is = omega (arith, length-append (number w32 id.0) (slices cover), n32 id.0, slices-at_most cover is.0)
 fields-at_most (Broke id r) is = omega (arith, length-append (number w32 id.0) (reason r), n32 id.0, n16 (code_of r))
 fields-at_most (Paused id) is = omega (arith, n32 id.0)
@@ -125,3 +183,10 @@ fields-at_most (Asked id) is = omega (arith, n32 id.0)
 
 pub spelling-at_most : (entry : Entry) → IsEntry entry → length (spelling_of entry) ≤ 11131
 spelling-at_most entry is = omega (arith, fields-at_most entry is)
+
+pub written-at_most : {E : Type 0} (entry : Entry) (result : Result (List ℕ) E) → IfOk result (λ bytes. bytes ≡ spelling_of entry) → IfOk result (λ _. IsEntry entry)
+    → IfOk result (λ bytes. (1 ≤ length bytes) × (length bytes ≤ 11131))
+written-at_most entry (Ok bytes) is fits =
+    let size : length bytes ≡ suc (length (fields_of entry)) = ap length is in
+    (omega (arith, size), omega (arith, size, fields-at_most entry fits))
+written-at_most entry (Err e) is fits = tt

@@ -1,5 +1,5 @@
 -- What reading an entry answers, and that it can answer nothing else.
-use Rattle.std.proofs.Common.{◌≡◌, ℕ, zero, suc, ◌+◌, ◌-◌, ◌<◌, ◌≤◌, List, [], ◌∷◌, ◌++◌, length, get_or, take, drop, Result, Ok, Err, refl, sym, ap, subst, ◌∙◌, append_assoc, arith, ◌⊎◌, inl, inr}
+use Rattle.std.proofs.Common.{◌≡◌, ℕ, zero, suc, ◌+◌, ◌-◌, ◌<◌, ◌≤◌, List, [], ◌∷◌, ◌++◌, length, get_or, take, drop, Result, Ok, Err, refl, sym, ap, subst, ◌∙◌, append_assoc, arith, ◌⊎◌, inl, inr, IfOk}
 use Rattle.std.proofs.lemmas.List.{take_at, drop_at, take-append-drop, length-append, length-take, append-nil}
 use Rattle.std.proofs.Math.Seq.{take-add}
 use Rattle.std.proofs.lemmas.Bool.{cases_lt}
@@ -169,6 +169,12 @@ answers bytes (Ok x) good is = subst (λ (r : Outcome). Answers bytes r) (sym is
 answers bytes (Err faults.Short) good is = subst (λ (r : Outcome). Answers bytes r) (sym is) (record_so bytes good)
 answers bytes (Err (faults.Bad place)) good is = subst (λ (r : Outcome). Answers bytes r) (sym is) (record_so bytes good)
 answers bytes (Err faults.NoMemory) good is = tt
+
+pub within : (bytes : List ℕ) (result : Outcome) → Answers bytes result → IfOk result (λ found. found.1 ≤ length bytes)
+within bytes (Ok x) so =
+    let size : length (take x.1 bytes) ≡ x.1 = ap length so.2 ∙ sym so.1 in
+    omega (arith, length-take x.1 bytes)
+within bytes (Err fault) so = tt
 
 unless : (result x y : Outcome) → x ≡ y → UnlessMemory result x → UnlessMemory result y
 unless result x y e is = subst (λ (r : Outcome). UnlessMemory result r) e is

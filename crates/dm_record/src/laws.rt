@@ -10,18 +10,15 @@ ghost use Rattle.dm_record.specs.Limits.{IsBytes, IsEntry, BeginsWithEntry, IsCu
 pub fn one_spelling()
     ensures { (a b : Entry) (x y : List ℕ) → IsEntry a → IsEntry b → spelling_of a ++ x ≡ spelling_of b ++ y
         → (a ≡ b) × (x ≡ y) }
-{
-}
+{}
 
 /// Bytes begin with an entry, or are cut off inside one, or are wrong at some place.
 pub fn three_ways()
     ensures { (bytes : List ℕ) → IsBytes bytes
         → BeginsWithEntry bytes ⊎ (IsCut bytes ⊎ ((place : ℕ) × IsBadAt bytes place)) }
-{
-}
+{}
 
 /// How long a spelling is.
 pub fn longest_spelling()
     ensures { (entry : Entry) → IsEntry entry → (1 ≤ length (spelling_of entry)) × (length (spelling_of entry) ≤ 11131) }
-{
-}
+{}

@@ -15,3 +15,6 @@ pub use fault::RecordFault;
 pub use laws::{longest_spelling, one_spelling, three_ways};
 pub use reader::read_entry;
 pub use writer::{write_broke, write_entry};
+
+#[cfg(test)]
+mod tests;

@@ -1,6 +1,6 @@
 //! Entries, read from the front of bytes.
 
-ghost use Rattle.std.specs.Prelude.{◌≡◌, ◌++◌, List, ℕ, length, Ok, Err};
+ghost use Rattle.std.specs.Prelude.{◌≡◌, ◌≤◌, ◌++◌, List, ℕ, length, IfOk, Ok, Err};
 ghost use Rattle.dm_types.specs.declared.entry.Entry.{Entry};
 ghost use Rattle.dm_record.specs.Spelling.{spelling_of};
 ghost use Rattle.dm_record.specs.Limits.{IsEntry, IsCut, IsBadAt, Answers, UnlessMemory};
@@ -57,6 +57,7 @@ fn record_of(alloc: Global, bytes: &[u8]) -> Result<(Entry, usize), RecordFault>
 pub fn read_entry(alloc: Global, bytes: &[u8]) -> Result<(Entry, usize), RecordFault>
     // Each answer is so.
     ensures answers { Answers bytes.now result }
+    ensures within { IfOk result (λ found. found.1 ≤ length bytes.now) }
     // What is spelled so is read, whatever follows.
     ensures whole { (entry : Entry) (rest : List ℕ) → IsEntry entry → bytes.now ≡ spelling_of entry ++ rest
         → UnlessMemory result (Ok (entry, length (spelling_of entry))) }

@@ -247,17 +247,26 @@ fn put_fields(out: &mut Text, entry: &Entry) -> Result<(), NoMemory>
     }
 }
 
-/// The bytes of an entry.
-pub fn write_entry(alloc: Global, entry: &Entry) -> Result<Text, NoMemory>
+fn bytes_of(alloc: Global, entry: &Entry) -> Result<Text, NoMemory>
     requires { IsSpellable entry.now }
     ensures bytes { IfOk result (λ bytes. bytes ≡ spelling_of entry.now) }
-    // So these bytes are read again as this entry.
     ensures entry { IfOk result (λ _. IsEntry entry.now) }
 {
     let mut out = Text::new(alloc);
     put_byte(&mut out, kind_code(entry))?;
     put_fields(&mut out, entry)?;
     Ok(out)
+}
+
+/// The bytes of an entry.
+pub fn write_entry(alloc: Global, entry: &Entry) -> Result<Text, NoMemory>
+    requires { IsSpellable entry.now }
+    ensures bytes { IfOk result (λ bytes. bytes ≡ spelling_of entry.now) }
+    // So these bytes are read again as this entry.
+    ensures entry { IfOk result (λ _. IsEntry entry.now) }
+    ensures length { IfOk result (λ bytes. (1 ≤ length bytes) × (length bytes ≤ 11131)) }
+{
+    bytes_of(alloc, entry)
 }
 
 /// The bytes of a `Broke`. They take no memory, since want of memory is a reason too.

@@ -13,3 +13,7 @@ returns-clause-cut c = places.cut c.args.bytes.now c.record_of.result (places.ar
 
 pub returns-clause-bad : goal.returns-clause-bad
 returns-clause-bad c = places.bad c.args.bytes.now c.record_of.result (places.are_bytes c.args.bytes.now (λ i. omega (arith, c.type_inv.bytes i))) c.record_of.ensures
+
+pub returns-clause-within : goal.returns-clause-within
+returns-clause-within c =
+    places.within c.args.bytes.now c.record_of.result (places.answers c.args.bytes.now c.record_of.result (places.are_bytes c.args.bytes.now (λ i. omega (arith, c.type_inv.bytes i))) c.record_of.ensures)

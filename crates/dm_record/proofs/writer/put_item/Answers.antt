@@ -38,6 +38,8 @@ returns c =
     let course = c.in_ok-put_course.ensures in
     let told = c.in_ok-put_told.ensures in
     on_ok_weaker c.put_kept.result
-      (λ kept. (chained c.args.out.now c.put_order.new.out c.put_phase.new.out c.put_course.new.out c.put_told.new.out c.put_kept.new.out (order_fields i) (phase_fields i) (course_fields i) (told_fields i) (kept_fields i) order.0 phase.0 course.0 told.0 kept.0,
-        whole i order.1 course.1 told.1 kept.1))
-      c.put_kept.ensures
+    (λ kept. (
+      chained c.args.out.now c.put_order.new.out c.put_phase.new.out c.put_course.new.out c.put_told.new.out c.put_kept.new.out (order_fields i) (phase_fields i) (course_fields i) (told_fields i) (kept_fields i) order.0 phase.0 course.0 told.0 kept.0,
+      whole i order.1 course.1 told.1 kept.1,
+    ))
+    c.put_kept.ensures
