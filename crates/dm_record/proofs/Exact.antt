@@ -33,6 +33,9 @@ pub IsBytes-back : (front rest : List ℕ) → IsBytes (front ++ rest) → IsByt
 IsBytes-back [] rest h = h
 IsBytes-back (b ∷ front) rest h = IsBytes-back front rest h.1
 
+pub assoc_back : (x y z : List ℕ) → x ++ (y ++ z) ≡ (x ++ y) ++ z
+assoc_back x y z = sym (append_assoc x y z)
+
 -- one of two fronts of a list begins the other
 pub fronts : (x y u v : List ℕ) → x ++ y ≡ u ++ v → ((w : List ℕ) × (x ≡ u ++ w)) ⊎ ((w : List ℕ) × (u ≡ x ++ w))
 fronts x y [] v e = inl (x, refl)
@@ -159,7 +162,7 @@ module _ {A B : Type 0} (spell : A → List ℕ) (Fits : A → Type 0) (read : L
       let f = exact.found bytes x.0.0 x.0.1 good x.1 in
       let good' : IsBytes x.0.1 = IsBytes-back (spell x.0.0) x.0.1 (subst IsBytes f.1 good) in
       let g = (exact' x.0.0 f.0).found x.0.1 y.0.0 y.0.1 good' y.1 in
-      let whole : bytes ≡ (spell x.0.0 ++ spell' x.0.0 y.0.0) ++ y.0.1 = f.1 ∙ ap (λ (l : List ℕ). spell x.0.0 ++ l) g.1 ∙ sym (append_assoc (spell x.0.0) (spell' x.0.0 y.0.0) y.0.1) in
+      let whole : bytes ≡ (spell x.0.0 ++ spell' x.0.0 y.0.0) ++ y.0.1 = f.1 ∙ ap (λ (l : List ℕ). spell x.0.0 ++ l) g.1 ∙ assoc_back (spell x.0.0) (spell' x.0.0 y.0.0) y.0.1 in
       let here : Both (x.0.0, y.0.0) × (bytes ≡ both (x.0.0, y.0.0) ++ y.0.1) = ((f.0, g.0), whole) in
       subst (λ (z : (A × B) × List ℕ). Both z.0 × (bytes ≡ both z.0 ++ z.1)) (ok_is ((x.0.0, y.0.0), y.0.1) (p, rest) y.2) here
 
@@ -187,11 +190,11 @@ module _ {A B : Type 0} (spell : A → List ℕ) (Fits : A → Type 0) (read : L
         more = s.more ++ spell' s.value b.0;
         goes_on = ap (λ (l : List ℕ). l ++ spell' s.value b.0) s.goes_on ∙ append_assoc s.front s.more (spell' s.value b.0);
         none = λ p after fits e.
-            let here : spell p.0 ++ spell' p.0 p.1 ≡ (s.front ++ s.byte ∷ []) ++ after = e ∙ sym (append_assoc s.front (s.byte ∷ []) after) in
+            let here : spell p.0 ++ spell' p.0 p.1 ≡ (s.front ++ s.byte ∷ []) ++ after = e ∙ assoc_back s.front (s.byte ∷ []) after in
             elim (fronts (spell p.0) (spell' p.0 p.1) (s.front ++ s.byte ∷ []) after here) [
               | inl w ↦ s.none p.0 w.0 fits.0 (w.1 ∙ append_assoc s.front (s.byte ∷ []) w.0)
               | inr w ↦
-                  let whole : bytes ≡ spell p.0 ++ (w.0 ++ s.rest) = s.parts ∙ sym (append_assoc s.front (s.byte ∷ []) s.rest) ∙ ap (λ (l : List ℕ). l ++ s.rest) w.1 ∙ append_assoc (spell p.0) w.0 s.rest in
+                  let whole : bytes ≡ spell p.0 ++ (w.0 ++ s.rest) = s.parts ∙ assoc_back s.front (s.byte ∷ []) s.rest ∙ ap (λ (l : List ℕ). l ++ s.rest) w.1 ∙ append_assoc (spell p.0) w.0 s.rest in
                   ok_or_err (read bytes) (p.0, w.0 ++ s.rest) (Stray left) (ap read whole ∙ exact.again p.0 (w.0 ++ s.rest) fits.0) r
             ];
       }
@@ -204,18 +207,18 @@ module _ {A B : Type 0} (spell : A → List ℕ) (Fits : A → Type 0) (read : L
     fits = (fits, s.fits);
     byte = s.byte;
     more = s.more;
-    goes_on = ap (λ (l : List ℕ). spell a ++ l) s.goes_on ∙ sym (append_assoc (spell a) after (s.byte ∷ s.more)) ∙ ap (λ (l : List ℕ). l ++ s.byte ∷ s.more) (sym e);
+    goes_on = ap (λ (l : List ℕ). spell a ++ l) s.goes_on ∙ assoc_back (spell a) after (s.byte ∷ s.more) ∙ ap (λ (l : List ℕ). l ++ s.byte ∷ s.more) (sym e);
   }
   second_stops bytes a after (Stray left) fits e s = record {
     front = spell a ++ s.front;
     byte = s.byte;
     rest = s.rest;
-    parts = e ∙ ap (λ (l : List ℕ). spell a ++ l) s.parts ∙ sym (append_assoc (spell a) s.front (s.byte ∷ s.rest));
+    parts = e ∙ ap (λ (l : List ℕ). spell a ++ l) s.parts ∙ assoc_back (spell a) s.front (s.byte ∷ s.rest);
     left_is = s.left_is;
     value = (a, s.value);
     fits = (fits, s.fits);
     more = s.more;
-    goes_on = ap (λ (l : List ℕ). spell a ++ l) s.goes_on ∙ sym (append_assoc (spell a) s.front s.more);
+    goes_on = ap (λ (l : List ℕ). spell a ++ l) s.goes_on ∙ assoc_back (spell a) s.front s.more;
     none = λ p next fits' q.
         let whole : spell p.0 ++ spell' p.0 p.1 ≡ spell a ++ (s.front ++ s.byte ∷ next) = q ∙ append_assoc (spell a) s.front (s.byte ∷ next) in
         let one : done (p.0, spell' p.0 p.1) ≡ done (a, s.front ++ s.byte ∷ next) = sym (exact.again p.0 (spell' p.0 p.1) fits'.0) ∙ ap read whole ∙ exact.again a (s.front ++ s.byte ∷ next) fits in

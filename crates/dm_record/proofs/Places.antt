@@ -11,7 +11,7 @@ use Rattle.dm_record.specs.declared.fault.Stop.TheVariants as stops
 use Rattle.dm_record.specs.Spelling.{spelling_of}
 use Rattle.dm_record.specs.Limits.{IsBytes, IsEntry, BeginsWithEntry, BeginsEntry, IsCut, IsBadAt, Answers, UnlessMemory}
 use Rattle.dm_record.specs.Reading.{Reading, entry_at, with_place, record_at}
-use Rattle.dm_record.proofs.Exact.{Strays, ok_or_err, ok_is}
+use Rattle.dm_record.proofs.Exact.{Strays, assoc_back, ok_or_err, ok_is}
 use Rattle.dm_record.proofs.ExactEntries.{entry_exact}
 
 abbrev Outcome : Type 0
@@ -60,7 +60,7 @@ stray_so bytes left e s =
     let place : length bytes - left ≡ length s.front = place_is bytes s.front s.rest s.byte left s.parts s.left_is in
     let whole : length bytes ≡ length s.front + suc (length s.rest) = ap length s.parts ∙ length-append s.front (s.byte ∷ s.rest) in
     let front : take (length s.front) bytes ≡ s.front = ap (take (length s.front)) s.parts ∙ take_at s.front (s.byte ∷ s.rest) (length s.front) refl in
-    let regrouped : bytes ≡ (s.front ++ s.byte ∷ []) ++ s.rest = s.parts ∙ sym (append_assoc s.front (s.byte ∷ []) s.rest) in
+    let regrouped : bytes ≡ (s.front ++ s.byte ∷ []) ++ s.rest = s.parts ∙ assoc_back s.front (s.byte ∷ []) s.rest in
     let size : length (s.front ++ s.byte ∷ []) ≡ length s.front + 1 = length-append s.front (s.byte ∷ []) in
     let longer : take (length s.front + 1) bytes ≡ s.front ++ s.byte ∷ [] = ap (take (length s.front + 1)) regrouped ∙ take_at (s.front ++ s.byte ∷ []) s.rest (length s.front + 1) size in
     let here : IsBadAt bytes (length s.front) = record {
