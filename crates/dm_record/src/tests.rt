@@ -7,58 +7,28 @@ use std::alloc::Global;
 use std::process::Abort;
 use std::test::Fail;
 
-/// Each kind, but `Restored`: its bytes, and its fields as they are printed.
-const ENTRIES: [(&[u8], &str); 15] = [
-    (
-        b"\x01\0\0\0\x01\0\x02w1\0\x01a\0\0\0\0\0\0\0\0\0\0\x07",
-        "Added { id: ItemId(1), word: Text { bytes: [119, 49] }, address: Text { bytes: [97] }, wish: Text { bytes: [] }, digest: None, at: 7 }",
-    ),
-    (
-        b"\x02\0\0\0\x01\0\0\x01\x02\x02\0\0\0\0\0\0\0\x03",
-        "Began { id: ItemId(1), attempt: Attempt(258), by: Itself, at: 3 }",
-    ),
-    (
-        b"\x02\0\0\0\x01\0\0\0\x01\x01\0\0\0\0\0\0\0\x03",
-        "Began { id: ItemId(1), attempt: Attempt(1), by: User, at: 3 }",
-    ),
-    (
-        b"\x03\0\0\0\x01\x01\0\x03\"a\"\0\x01b\x01\0\0\0\0\0\0\0\x0b\0\x01c\0\0",
-        "Described { id: ItemId(1), key: Strong(Text { bytes: [34, 97, 34] }), last_address: Text { bytes: [98] }, total: Some(11), name: Text { bytes: [99] }, modified: Text { bytes: [] } }",
-    ),
-    (
-        b"\x04\0\0\0\x01\x01\0\0\0\0\0\0\0\x05\0\0\0\0\0\0\0\x06\x01",
-        "Progress { id: ItemId(1), slices: Slices { items: [Slice { first: 5, got: 6, finished: true }] } }",
-    ),
-    (
-        b"\x05\0\0\0\x01\0\x26",
-        "Broke { id: ItemId(1), reason: ServerContentLengthMismatch }",
-    ),
-    (b"\x06\0\0\0\x01", "Paused { id: ItemId(1) }"),
-    (b"\x07\0\0\0\x01", "Cancelled { id: ItemId(1) }"),
-    (
-        b"\x08\0\0\0\x01\0\0\0\x02\x04",
-        "Restarted { id: ItemId(1), epoch: Epoch(2), because: 4 }",
-    ),
-    (
-        b"\x09\0\0\0\x01\0\0\0\0\0\0\0\x0b",
-        "Finishing { id: ItemId(1), total: 11 }",
-    ),
-    (
-        b"\x0a\0\0\0\x01\x01\x01\x01\x01\x01\x01\x01\x01\x01\x01\x01\x01\x01\x01\x01\x01\x01\x01\x01\x01\x01\x01\x01\x01\x01\x01\x01\x01\x01\x01\x01\x02\0\0\0\0\0\0\0\x05",
-        "Done { id: ItemId(1), digest: [1, 1, 1, 1, 1, 1, 1, 1, 1, 1, 1, 1, 1, 1, 1, 1, 1, 1, 1, 1, 1, 1, 1, 1, 1, 1, 1, 1, 1, 1, 1, 2], at: 5 }",
-    ),
-    (b"\x0b\0\0\0\x01", "Removed { id: ItemId(1) }"),
-    (b"\x0c\0\0\0\x01", "Archived { id: ItemId(1) }"),
-    (
-        b"\x0d\0\0\0\x01\0\0\0\0\0\0\0\0",
-        "Reopened { next: 1, at: 0 }",
-    ),
-    (b"\x0f\0\0\0\x01", "Asked { id: ItemId(1) }"),
+/// An entry of each kind, and one of each form that a kind has.
+const ENTRIES: [&[u8]; 17] = [
+    b"\x01\0\0\0\x01\0\x02w1\0\x01a\0\0\0\0\0\0\0\0\0\0\x07",
+    b"\x02\0\0\0\x01\0\0\x01\x02\x02\0\0\0\0\0\0\0\x03",
+    b"\x02\0\0\0\x01\0\0\0\x01\x01\0\0\0\0\0\0\0\x03",
+    b"\x03\0\0\0\x01\x01\0\x03\"a\"\0\x01b\x01\0\0\0\0\0\0\0\x0b\0\x01c\0\0",
+    b"\x04\0\0\0\x01\x01\0\0\0\0\0\0\0\x05\0\0\0\0\0\0\0\x06\x01",
+    b"\x05\0\0\0\x01\0\x26",
+    b"\x06\0\0\0\x01",
+    b"\x07\0\0\0\x01",
+    b"\x08\0\0\0\x01\0\0\0\x02\x04",
+    b"\x09\0\0\0\x01\0\0\0\0\0\0\0\x0b",
+    b"\x0a\0\0\0\x01\x01\x01\x01\x01\x01\x01\x01\x01\x01\x01\x01\x01\x01\x01\x01\x01\x01\x01\x01\x01\x01\x01\x01\x01\x01\x01\x01\x01\x01\x01\x01\x02\0\0\0\0\0\0\0\x05",
+    b"\x0b\0\0\0\x01",
+    b"\x0c\0\0\0\x01",
+    b"\x0d\0\0\0\x01\0\0\0\0\0\0\0\0",
+    b"\x0f\0\0\0\x01",
+    // under no tag
+    b"\x03\0\0\0\x01\x02\0\0\0\x01\0\0\0\x01\0\x01b\0\0\x01c\0\x01d",
+    // an interrupted item with every field
+    b"\x0e\0\0\0\x01\0\0\0\x01a\0\x01b\x01\x07\x07\x07\x07\x07\x07\x07\x07\x07\x07\x07\x07\x07\x07\x07\x07\x07\x07\x07\x07\x07\x07\x07\x07\x07\x07\x07\x07\x07\x07\x07\x07\x07\x01\0\x15\0\0\0\x02\0\0\0\x03\0\0\0\x01\x01\x01\x02\0\0\0\x01\0\0\0\x03\x01\0\x01c\x01\0\0\0\0\0\0\0\x0b\x01\0\x01d\x01\0\0\x01\0\0\0\0\0\0\0\0\0\0\0\0\0\0\0\0\0\x01\x09\x09\x09\x09\x09\x09\x09\x09\x09\x09\x09\x09\x09\x09\x09\x09\x09\x09\x09\x09\x09\x09\x09\x09\x09\x09\x09\x09\x09\x09\x09\x09\0\0\0\0\0\0\0\x05",
 ];
-
-/// An interrupted item with every field.
-const INTERRUPTED: &[u8] =
-    b"\x0e\0\0\0\x01\0\0\0\x01a\0\x01b\x01\x07\x07\x07\x07\x07\x07\x07\x07\x07\x07\x07\x07\x07\x07\x07\x07\x07\x07\x07\x07\x07\x07\x07\x07\x07\x07\x07\x07\x07\x07\x07\x07\x07\x01\0\x15\0\0\0\x02\0\0\0\x03\0\0\0\x01\x01\x01\x02\0\0\0\x01\0\0\0\x03\x01\0\x01c\x01\0\0\0\0\0\0\0\x0b\x01\0\x01d\x01\0\0\x01\0\0\0\0\0\0\0\0\0\0\0\0\0\0\0\0\0\x01\x09\x09\x09\x09\x09\x09\x09\x09\x09\x09\x09\x09\x09\x09\x09\x09\x09\x09\x09\x09\x09\x09\x09\x09\x09\x09\x09\x09\x09\x09\x09\x09\0\0\0\0\0\0\0\x05";
 
 const WRONG: [(&[u8], usize); 27] = [
     (b"\0", 0),
@@ -106,7 +76,7 @@ const WRONG: [(&[u8], usize); 27] = [
 ];
 
 /// The bytes are an entry, which is written so again, and each proper front of them is short.
-fn both_ways(rt: &impl Abort, alloc: Global, bytes: &[u8]) -> Result<Entry, Fail> {
+fn both_ways(rt: &impl Abort, alloc: Global, bytes: &[u8]) -> Result<(), Fail> {
     let (entry, count) = read_entry(alloc, bytes).ok().ok_or("an entry")?;
     assert_eq!(rt; count, bytes.len());
     let written = write_entry(alloc, &entry)?;
@@ -115,28 +85,14 @@ fn both_ways(rt: &impl Abort, alloc: Global, bytes: &[u8]) -> Result<Entry, Fail
         let cut = read_entry(alloc, &bytes[..count]).err();
         assert_eq!(rt; cut, Some(RecordFault::Short));
     }
-    Ok(entry)
-}
-
-#[test]
-fn each_kind_is_read_and_written(rt: HostRuntime) -> Result<(), Fail> {
-    for (bytes, shown) in &ENTRIES {
-        let entry = both_ways(&rt, rt.alloc(), bytes)?;
-        let text = format!(in rt.alloc(); "{entry:?}")?;
-        assert_eq!(rt; text.as_str(), *shown);
-    }
     Ok(())
 }
 
 #[test]
-fn an_interrupted_item_has_its_reason(rt: HostRuntime) -> Result<(), Fail> {
-    let entry = both_ways(&rt, rt.alloc(), INTERRUPTED)?;
-    let text = format!(in rt.alloc(); "{entry:?}")?;
-    assert!(rt;
-        text.contains(
-            "phase: Interrupted(NetworkTimeout), reason: Some(NetworkTimeout), epoch: Epoch(2), attempt: Attempt(3), autos: 1, begun: true, key: Some(Once(ItemId(1), Attempt(3)))"
-        )
-    );
+fn each_kind_is_read_and_written(rt: HostRuntime) -> Result<(), Fail> {
+    for bytes in &ENTRIES {
+        both_ways(&rt, rt.alloc(), bytes)?;
+    }
     Ok(())
 }
 
