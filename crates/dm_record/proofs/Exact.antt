@@ -1,5 +1,5 @@
 -- When reading a field is exact, and that fields in turn are.
-use Rattle.std.proofs.Common.{◌≡◌, ℕ, zero, suc, ◌+◌, ◌<◌, List, [], ◌∷◌, ◌++◌, length, Option, Some, None, Result, Ok, Err, refl, sym, ap, subst, ◌∙◌, append_assoc, arith, ◌⊎◌, inl, inr}
+use Rattle.std.proofs.Common.{◌≡◌, ℕ, suc, List, [], ◌∷◌, ◌++◌, length, Result, Ok, Err, refl, sym, ap, subst, ◌∙◌, append_assoc, ◌⊎◌, inl, inr}
 use Rattle.dm_record.specs.declared.fault.Stop.{Stop}
 use Rattle.dm_record.specs.declared.fault.Stop.TheVariants.{Short, Stray, NoMemory}
 use Rattle.dm_record.specs.Limits.{IsBytes}

@@ -1,5 +1,5 @@
 -- The fields of each kind are read exactly, and so are entries.
-use Rattle.std.proofs.Common.{◌≡◌, ℕ, Bool, zero, suc, ◌^◌, ◌<◌, List, [], ◌∷◌, ◌++◌, Option, Some, None, Result, Ok, Err, refl, sym, ap, subst, arith, lit<, inl, inr, IfSome}
+use Rattle.std.proofs.Common.{◌≡◌, ℕ, Bool, zero, suc, ◌^◌, ◌<◌, List, [], ◌∷◌, ◌++◌, Option, Some, None, Err, refl, subst, arith, inl, inr, IfSome}
 use Rattle.std.specs.Int.{w32, w64}
 use Rattle.dm_types.specs.declared.entry.Entry.{Entry}
 use Rattle.dm_types.specs.declared.entry.Entry.TheVariants.{Added, Began, Described, Progress, Broke, Paused, Cancelled, Restarted, Finishing, Done, Removed, Archived, Reopened, Restored, Asked}
@@ -9,7 +9,6 @@ use Rattle.dm_types.specs.declared.item.Epoch.{Epoch}
 use Rattle.dm_types.specs.declared.item.Attempt.{Attempt}
 use Rattle.dm_types.specs.declared.item.Key.{Key}
 use Rattle.dm_types.specs.declared.item.Phase.{Phase}
-use Rattle.dm_types.specs.declared.kinds.By.{By}
 use Rattle.dm_types.specs.declared.reason.Reason.{Reason}
 use Rattle.dm_types.specs.declared.slices.Slice.{Slice}
 use Rattle.dm_record.specs.declared.fault.Stop.TheVariants as stops
@@ -18,11 +17,11 @@ use Rattle.dm_record.specs.declared.parts.Course.{Course}
 use Rattle.dm_record.specs.declared.parts.Told.{Told}
 use Rattle.dm_record.specs.declared.parts.Kept.{Kept}
 use Rattle.dm_record.specs.Spelling.{number, text, optional, digest, key, slices, flag_byte, kind_of, fields_of, spelling_of}
-use Rattle.dm_record.specs.Limits.{IsBytes, AtMost, IsDigest, IsTag, IsKey, IsEntry, IsItem, IsSpellableItem}
-use Rattle.dm_record.specs.Reading.{Reading, in_turn, made_by, coded_at, number_at, text_at, optional_at, flag_of, digest_at, key_at, id_at, slices_at, phase_at, order_at, course_at, told_at, kept_at, make_added, make_began, make_described, make_progress, make_broke, make_restarted, make_finishing, make_done, make_reopened, make_item, make_restored, added_at, began_at, described_at, progress_at, broke_at, paused_at, cancelled_at, restarted_at, finishing_at, done_at, removed_at, archived_at, reopened_at, restored_at, asked_at, fields_at, entry_at}
+use Rattle.dm_record.specs.Limits.{IsBytes, AtMost, IsDigest, IsTag, IsKey, IsEntry}
+use Rattle.dm_record.specs.Reading.{Reading, made_by, number_at, text_at, digest_at, key_at, order_at, course_at, told_at, kept_at, make_added, make_began, make_described, make_progress, make_broke, make_restarted, make_finishing, make_done, make_reopened, make_restored, added_at, began_at, described_at, progress_at, broke_at, paused_at, cancelled_at, restarted_at, finishing_at, done_at, removed_at, archived_at, reopened_at, restored_at, asked_at, entry_at}
 use Rattle.dm_record.proofs.Exact.{Exact, Branch, made, next, tagged, respelled_by}
 use Rattle.dm_record.proofs.ExactFields.{text_exact, optional_exact}
-use Rattle.dm_record.proofs.ExactValues.{u32_exact, u64_exact, id_exact, epoch_exact, attempt_exact, digest_exact, key_exact, reason_exact, slices_exact, phase_exact, flag_exact, by_exact, within_exact, FitsKey, FitsSlices, FitsPhase, phase_spelling}
+use Rattle.dm_record.proofs.ExactValues.{u32_exact, u64_exact, id_exact, epoch_exact, attempt_exact, digest_exact, key_exact, reason_exact, slices_exact, phase_exact, flag_exact, by_exact, within_exact, FitsKey, FitsSlices, FitsPhase}
 
 -- the entries that are made of fields so
 abbrev Made : {X : Type 0} → (X → Entry) → Entry → Type 0

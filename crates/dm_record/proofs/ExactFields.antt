@@ -1,16 +1,15 @@
 -- Each field is read exactly.
-use Rattle.std.proofs.Common.{◌≡◌, ℕ, zero, suc, ◌+◌, ◌-◌, ◌*◌, ◌/◌, ◌%◌, ◌^◌, ◌<◌, ◌≤◌, Bool, true, false, cond, ltb, List, [], ◌∷◌, ◌++◌, length, get_or, take, drop, replicate, lit<, Option, Some, None, Result, Ok, Err, refl, sym, ap, subst, ◌∙◌, append_assoc, arith, ◌⊎◌, inl, inr, IfSome}
+use Rattle.std.proofs.Common.{◌≡◌, ℕ, zero, suc, ◌+◌, ◌-◌, ◌*◌, ◌/◌, ◌%◌, ◌^◌, ◌<◌, ◌≤◌, false, ltb, List, [], ◌∷◌, ◌++◌, length, get_or, take, drop, lit<, Option, Some, None, Result, Ok, Err, refl, sym, ap, subst, ◌∙◌, arith, inl, inr, IfSome}
 use Rattle.std.specs.Int.{Width, w16, w32, w64, byte_len, from_be_bytes, to_be_bytes}
-use Rattle.std.specs.List.{AllByRecursion}
-use Rattle.std.proofs.lemmas.Bool.{cases_lt, ltb-false, le-ltb, lt-ltb, ltb-true}
-use Rattle.std.proofs.lemmas.List.{take_at, drop_at, take-append-drop, length-append, length-take, append-nil, nil_from_length}
-use Rattle.std.proofs.lemmas.Nat.{be_bytes_2, be_bytes_4, be_bytes_8, from_be_bytes-to_be_bytes_2, from_be_bytes-to_be_bytes_4, from_be_bytes-to_be_bytes_8}
+use Rattle.std.proofs.lemmas.Bool.{cases_lt, le-ltb, lt-ltb}
+use Rattle.std.proofs.lemmas.List.{take_at, drop_at, take-append-drop, length-append, length-take}
+use Rattle.std.proofs.lemmas.Nat.{be_bytes_2, be_bytes_4, be_bytes_8, from_be_bytes-to_be_bytes_4, from_be_bytes-to_be_bytes_8}
 use Rattle.dm_record.specs.declared.fault.Stop.{Stop}
-use Rattle.dm_record.specs.declared.fault.Stop.TheVariants.{Short, Stray, NoMemory}
+use Rattle.dm_record.specs.declared.fault.Stop.TheVariants.{Short, Stray}
 use Rattle.dm_record.specs.Spelling.{number, text, optional}
 use Rattle.dm_record.specs.Limits.{IsBytes, AtMost}
-use Rattle.dm_record.specs.Reading.{Reading, ◌>>=◌, in_turn, made_by, coded, coded_at, number_at, run_at, length_at, text_at, optional_at}
-use Rattle.dm_record.proofs.Exact.{Exact, StopsAt, Cut, Strays, IsBytes-back, same_stop, ok_or_err, ok_is, made, made_image, Image, tagged, turn, respelled, Branch}
+use Rattle.dm_record.specs.Reading.{Reading, in_turn, coded, coded_at, number_at, run_at, length_at, text_at, optional_at}
+use Rattle.dm_record.proofs.Exact.{Exact, StopsAt, Cut, Strays, same_stop, ok_or_err, ok_is, made, made_image, Image, tagged, turn, respelled, Branch}
 
 -- ---- so many bytes
 

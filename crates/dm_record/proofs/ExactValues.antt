@@ -1,9 +1,8 @@
 -- The parts of entries are read exactly.
-use Rattle.std.proofs.Common.{◌≡◌, ℕ, zero, suc, ◌+◌, ◌^◌, ◌<◌, ◌≤◌, Bool, true, false, cond, ltb, eqb, find, List, [], ◌∷◌, ◌++◌, length, Option, Some, None, Result, Ok, Err, refl, sym, ap, subst, ◌∙◌, append_assoc, arith, lit<, inl, inr, IfSome, IfNone}
-use Rattle.std.specs.Int.{Width, w16, w32, w64}
+use Rattle.std.proofs.Common.{◌≡◌, ℕ, zero, suc, ◌^◌, ◌<◌, ◌≤◌, Bool, true, false, cond, eqb, find, List, [], ◌∷◌, ◌++◌, length, Option, Some, None, Err, refl, sym, ap, subst, ◌∙◌, arith, inl, inr, IfSome, IfNone}
+use Rattle.std.specs.Int.{w32, w64}
 use Rattle.std.specs.List.{AllByRecursion, flat_map}
 use Rattle.std.proofs.lemmas.Bool.{cases_lt, le-ltb, lt-ltb, eqb-true}
-use Rattle.std.proofs.lemmas.Option.{cond_some}
 use Rattle.dm_types.specs.Reason.{code_of}
 use Rattle.dm_types.specs.declared.item.ItemId.{ItemId}
 use Rattle.dm_types.specs.declared.item.Epoch.{Epoch}
@@ -17,11 +16,10 @@ use Rattle.dm_types.specs.declared.kinds.By.TheVariants.{User, Itself}
 use Rattle.dm_types.specs.declared.reason.Reason.{Reason}
 use Rattle.dm_types.specs.declared.reason.Reason.TheVariants.{FileFailed, FileAccessDenied, FileNoSpace, FileNameTooLong, FileTooLarge, FileTooShort, FileHashMismatch, NetworkFailed, NetworkTimeout, NetworkDisconnected, NetworkServerDown, NetworkInvalidRequest, ServerFailed, ServerNoRange, ServerBadContent, ServerUnauthorized, ServerForbidden, ServerContentLengthMismatch, UserCanceled, UserShutdown, Crash, NoMemory}
 use Rattle.dm_types.specs.declared.slices.Slice.{Slice}
-use Rattle.dm_record.specs.declared.fault.Stop.{Stop}
 use Rattle.dm_record.specs.declared.fault.Stop.TheVariants as stops
 use Rattle.dm_record.specs.Spelling.{number, text, optional, flag_byte, by_byte, phase_byte, reason, key, slice, slices, digest}
 use Rattle.dm_record.specs.Limits.{IsBytes, AtMost, IsDigest, IsTag, IsKey, IsSlice, IsCount, HasReason}
-use Rattle.dm_record.specs.Reading.{Reading, in_turn, made_by, coded_at, number_at, run_at, text_at, optional_at, times_at, flag_of, by_of, within, reasons, reason_of, id_at, epoch_at, attempt_at, digest_at, reason_at, key_at, slice_at, slices_at, phased_at, interrupted_at, phase_at}
+use Rattle.dm_record.specs.Reading.{Reading, in_turn, coded_at, number_at, text_at, optional_at, times_at, flag_of, by_of, within, reasons, reason_of, id_at, epoch_at, attempt_at, digest_at, reason_at, key_at, slice_at, slices_at, phased_at, interrupted_at, phase_at}
 use Rattle.dm_record.proofs.Exact.{Exact, Branch, Image, made, made_image, respelled, turn, next, tagged}
 use Rattle.dm_record.proofs.ExactFields.{run_exact, number_exact, wide32, wide64, IsCode, coded_exact, text_exact, IsText, optional_exact, one_exact}
 

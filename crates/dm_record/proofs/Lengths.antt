@@ -1,5 +1,5 @@
 -- How long spellings are.
-use Rattle.std.proofs.Common.{◌≡◌, ℕ, suc, ◌+◌, ◌*◌, ◌<◌, ◌≤◌, List, [], ◌∷◌, ◌++◌, length, Option, Some, None, refl, ap, ◌∙◌, arith, subst, sym, Result, Ok, Err, IfOk, IfSome}
+use Rattle.std.proofs.Common.{◌≡◌, ℕ, suc, ◌+◌, ◌*◌, ◌≤◌, List, [], ◌∷◌, ◌++◌, length, Option, Some, None, refl, ap, arith, Result, Ok, Err, IfOk, IfSome}
 use Rattle.std.specs.Int.{w16, w32, w64}
 use Rattle.std.specs.List.{flat_map}
 use Rattle.std.proofs.lemmas.List.{length-append}
@@ -11,7 +11,7 @@ use Rattle.dm_types.specs.declared.item.Key.TheVariants.{Strong, Once}
 use Rattle.dm_types.specs.declared.reason.Reason.{Reason}
 use Rattle.dm_types.specs.declared.slices.Slice.{Slice}
 use Rattle.dm_types.specs.Reason.{code_of}
-use Rattle.dm_record.specs.Spelling.{number, text, optional, digest, reason, key, slice, slices, flag_byte, by_byte, phase_byte, order_fields, phase_fields, course_fields, told_fields, kept_fields, item_fields, fields_of, spelling_of}
+use Rattle.dm_record.specs.Spelling.{number, text, optional, digest, reason, key, slice, slices, flag_byte, by_byte, order_fields, phase_fields, course_fields, told_fields, kept_fields, item_fields, fields_of, spelling_of}
 use Rattle.dm_record.specs.Limits.{AtMost, IsDigest, IsTag, IsCount, IsEntry, IsSpellableItem, IsItem}
 
 n16 : (n : ℕ) → length (number w16 n) ≡ 2

@@ -1,12 +1,11 @@
 -- What reading an entry answers, and that it can answer nothing else.
-use Rattle.std.proofs.Common.{◌≡◌, ℕ, zero, suc, ◌+◌, ◌-◌, ◌<◌, ◌≤◌, List, [], ◌∷◌, ◌++◌, length, get_or, take, drop, Result, Ok, Err, refl, sym, ap, subst, ◌∙◌, append_assoc, arith, ◌⊎◌, inl, inr, IfOk}
-use Rattle.std.proofs.lemmas.List.{take_at, drop_at, take-append-drop, length-append, length-take, append-nil}
+use Rattle.std.proofs.Common.{◌≡◌, ℕ, suc, ◌+◌, ◌-◌, ◌<◌, ◌≤◌, List, [], ◌∷◌, ◌++◌, length, get_or, take, drop, Result, Ok, Err, refl, sym, ap, subst, ◌∙◌, append_assoc, arith, ◌⊎◌, inl, inr, IfOk}
+use Rattle.std.proofs.lemmas.List.{take_at, take-append-drop, length-append, length-take, append-nil}
 use Rattle.std.proofs.Math.Seq.{take-add}
 use Rattle.std.proofs.lemmas.Bool.{cases_lt}
 use Rattle.dm_types.specs.declared.entry.Entry.{Entry}
 use Rattle.dm_record.specs.declared.fault.RecordFault.{RecordFault}
 use Rattle.dm_record.specs.declared.fault.RecordFault.TheVariants as faults
-use Rattle.dm_record.specs.declared.fault.Stop.{Stop}
 use Rattle.dm_record.specs.declared.fault.Stop.TheVariants as stops
 use Rattle.dm_record.specs.Spelling.{spelling_of}
 use Rattle.dm_record.specs.Limits.{IsBytes, IsEntry, BeginsWithEntry, BeginsEntry, IsCut, IsBadAt, Answers, UnlessMemory}
