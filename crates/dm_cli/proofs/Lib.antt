@@ -1,4 +1,5 @@
 pub mod Asking
+pub mod Completing
 pub mod Copied
 pub mod Endings
 pub mod Publishing

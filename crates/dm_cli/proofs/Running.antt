@@ -22,7 +22,10 @@ ran_says words old new disk_before disk_after net_before net_after before after 
 ran_says words old new disk_before disk_after net_before net_after before after BadAddress ran = elim ran.says [ inl none ↦ absurd none.1 | inr one ↦ absurd one.says ]
 
 -- the words are one get alone
-pub same_file : (words : List (List ℕ)) (name address other_name other_address : List ℕ) → IsGet words name address → IsGet words other_name other_address → file_place name ≡ file_place other_name
-same_file words name address other_name other_address is other = ap file_place (third_is (sym is.is ∙ other.is)) where
+pub same_name : (words : List (List ℕ)) (name address other_name other_address : List ℕ) → IsGet words name address → IsGet words other_name other_address → name ≡ other_name
+same_name words name address other_name other_address is other = third_is (sym is.is ∙ other.is) where
   third_is : {a b c d e f : List ℕ} {x y : List ℕ} → a ∷ b ∷ x ∷ d ∷ [] ≡ c ∷ e ∷ y ∷ f ∷ [] → x ≡ y
   third_is same = cc
+
+pub same_file : (words : List (List ℕ)) (name address other_name other_address : List ℕ) → IsGet words name address → IsGet words other_name other_address → file_place name ≡ file_place other_name
+same_file words name address other_name other_address is other = ap file_place (same_name words name address other_name other_address is other)

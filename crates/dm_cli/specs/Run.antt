@@ -1,16 +1,18 @@
 -- What a run of the program did.
-use Rattle.std.specs.Prelude.{◌≡◌, ◌⊎◌, ℕ, List}
+use Rattle.std.specs.Prelude.{◌≡◌, ◌⊎◌, ℕ, List, [], ◌∷◌, ◌++◌}
+use Rattle.dm_types.specs.Faults.{Rose}
 use Rattle.dm_types.specs.declared.kinds.DiskKind.{DiskKind}
 use Rattle.dm_types.specs.declared.address.Address.{Address}
 use Rattle.dm_edge.specs.declared.fault.NetFault.{NetFault}
 use Rattle.dm_edge.specs.Wire.{Closed}
 use Rattle.dm_disk_model.specs.Disk.{DiskState}
 use Rattle.dm_words.specs.Command.{IsGet}
+use Rattle.dm_reply.specs.Reply.{IsWhole}
 use Rattle.dm_request.specs.Fault.{IsNoAddress, IsRead}
 use Rattle.dm_request.specs.Request.{request_of}
 use Rattle.dm_cli.specs.declared.ending.Ending.{Ending}
 use Rattle.dm_cli.specs.declared.ending.Ending.TheVariants.{Complete, Interrupted, BadWords, BadAddress, DiskFailed, NoMemory}
-use Rattle.dm_cli.specs.Get.{file_place, the_part, GetSays, LeavesOthers}
+use Rattle.dm_cli.specs.Get.{file_place, the_part, IsTaken, GetSays, LeavesOthers}
 
 -- there is one ending, and it is so
 pub record Explains (so : Ending → Type 0) : Type 0 where
@@ -55,3 +57,21 @@ RunSays words old new disk_before disk_after net_before net_after before after N
 RunSays words old new disk_before disk_after net_before net_after before after (Complete line) = RanGet words old new disk_before disk_after net_before net_after before after (Complete line)
 RunSays words old new disk_before disk_after net_before net_after before after (Interrupted reason line) = RanGet words old new disk_before disk_after net_before net_after before after (Interrupted reason line)
 RunSays words old new disk_before disk_after net_before net_after before after (DiskFailed kind) = RanGet words old new disk_before disk_after net_before net_after before after (DiskFailed kind)
+
+-- no count rose
+abbrev pub NoneRose : {K : Type 0} → (K → ℕ) → (K → ℕ) → Type 0
+NoneRose {K} before after = (kind : K) → Rose (before kind) (after kind) → ⊥
+
+-- the file was brought, or memory was wanting
+abbrev pub IsCompleteOrMemory : Ending → Type 0
+IsCompleteOrMemory (Complete line) = Unit {0}
+IsCompleteOrMemory NoMemory = Unit {0}
+IsCompleteOrMemory _ = ⊥
+
+-- Where no call on the disk or the net failed, the connection's reply was whole and the name was free, the file was brought.
+abbrev pub Completes : List (List ℕ) → DiskState → (DiskKind → ℕ) → (DiskKind → ℕ) → (NetFault → ℕ) → (NetFault → ℕ) → List Closed → List Closed → Ending → Type 0
+Completes words old disk_before disk_after net_before net_after before after ending =
+    NoneRose disk_before disk_after → NoneRose net_before net_after
+    → (name text : List ℕ) → IsGet words name text → (IsTaken old name → ⊥)
+    → (connection : Closed) → after ≡ before ++ connection ∷ [] → (content : List ℕ) → IsWhole connection.stream content
+    → IsCompleteOrMemory ending

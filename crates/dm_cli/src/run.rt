@@ -4,7 +4,7 @@ ghost use Rattle.dm_disk_model.specs.Disk.{now};
 ghost use Rattle.dm_disk_model.specs.Names.{NeverStands, Throughout};
 ghost use Rattle.dm_words.specs.Command.{IsGet};
 ghost use Rattle.dm_cli.specs.Get.{file_place, NeverPartialOf};
-ghost use Rattle.dm_cli.specs.Run.{RunSays, Explains, Refused};
+ghost use Rattle.dm_cli.specs.Run.{RunSays, Completes, Explains, Refused};
 ghost use Rattle.dm_cli.specs.Print.{PrintsEnding};
 
 use crate::Ending;
@@ -28,7 +28,7 @@ pub struct Ran<D> {
 fn run<D: Disk, N: Net>(alloc: Global, words: &[Text], disk: &mut D, net: &mut N) -> Ending
     ensures says { D.tells → N.tells
         → RunSays words.now (now (D.history disk.old)) (now (D.history disk.new)) (D.faults disk.old) (D.faults disk.new)
-            (N.faults net.old) (N.faults net.new) (N.closed net.old) (N.closed net.new) result }
+        (N.faults net.old) (N.faults net.new) (N.closed net.old) (N.closed net.new) result }
     ensures partial { D.tells → N.tells → (name address : List ℕ) → IsGet words.now name address → NeverStands (file_place name) (now (D.history disk.old))
         → Throughout (D.history disk.old) (D.history disk.new) (NeverPartialOf (file_place name) (N.closed net.old) (N.closed net.new)) }
     ensures disk_later { NoneFell (D.faults disk.old) (D.faults disk.new) }
@@ -63,7 +63,9 @@ pub fn run_words<D: Disk, N: Net, C: Clock, S: Sink>(
         (D.tells → N.tells → RunSays words.now (now (D.history disk)) (now (D.history result.disk)) (D.faults disk) (D.faults result.disk)
         (N.faults net.old) (N.faults net.new) (N.closed net.old) (N.closed net.new) ending)
         × PrintsEnding S.tells (S.written out.old) (S.written out.new) (S.written errs.old) (S.written errs.new)
-        (S.faults out.old) (S.faults out.new) (S.faults errs.old) (S.faults errs.new) ending result.status) }
+        (S.faults out.old) (S.faults out.new) (S.faults errs.old) (S.faults errs.new) ending result.status
+        × (D.tells → N.tells → Completes words.now (now (D.history disk)) (D.faults disk) (D.faults result.disk)
+        (N.faults net.old) (N.faults net.new) (N.closed net.old) (N.closed net.new) ending)) }
 
     // Whenever a crash comes, the name has nothing or the whole content of the one connection's reply.
     ensures partial { D.tells → N.tells → (name address : List ℕ) → IsGet words.now name address → NeverStands (file_place name) (now (D.history disk))
