@@ -1,5 +1,5 @@
 -- From the wire to the net that took it back.
-use Rattle.std.proofs.Common.{◌≡◌, ℕ, ◌+◌, ◌<◌, ◌≤◌, List, [], ◌∷◌, ◌++◌, Some, inl, inr, refl, sym, ◌∙◌, ap, subst, arith}
+use Rattle.std.proofs.Common.{◌≡◌, ℕ, ◌<◌, List, [], ◌∷◌, ◌++◌, Some, inl, inr, refl, sym, ◌∙◌, ap, arith}
 use Rattle.std.specs.Prelude.{◌≢◌, codes}
 use Rattle.dm_types.specs.Faults.{Rose, NoneFell}
 use Rattle.dm_types.specs.declared.kinds.DiskKind.{DiskKind}
@@ -8,10 +8,10 @@ use Rattle.dm_types.specs.declared.reason.Reason.TheVariants as reason
 use Rattle.dm_edge.specs.declared.fault.WireFault.{WireFault}
 use Rattle.dm_edge.specs.declared.fault.WireFault.TheVariants as wire
 use Rattle.dm_edge.specs.declared.fault.NetFault.{NetFault}
-use Rattle.dm_edge.specs.Faults.{wire_kind, net_kind, net_count_of}
+use Rattle.dm_edge.specs.Faults.{wire_kind, net_count_of}
 use Rattle.dm_edge.specs.Wire.{Closed}
 use Rattle.dm_disk_model.specs.declared.place.Place.{Place}
-use Rattle.dm_disk_model.specs.Disk.{DiskState, Image, History, MayLeave}
+use Rattle.dm_disk_model.specs.Disk.{DiskState, History}
 use Rattle.dm_disk_model.specs.Names.{Throughout}
 use Rattle.dm_disk_model.proofs.Naming.{throughout_weaker}
 use Rattle.std.specs.Fmt.{decimal}

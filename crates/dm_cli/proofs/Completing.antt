@@ -1,20 +1,18 @@
 -- A whole reply under a free name, with no fault counted, ends in the file or in want of memory.
-use Rattle.std.proofs.Common.{◌≡◌, ℕ, ◌+◌, List, [], ◌∷◌, ◌++◌, length, drop, inl, inr, refl, sym, ◌∙◌, ap, subst, arith, length-append}
+use Rattle.std.proofs.Common.{◌≡◌, ℕ, List, [], ◌∷◌, ◌++◌, length, drop, inl, inr, sym, ◌∙◌, ap, subst, arith, length-append}
 use Rattle.std.proofs.Math.Seq.{drop-append_seam}
-use Rattle.dm_types.specs.Faults.{Rose}
 use Rattle.dm_types.specs.declared.kinds.DiskKind.{DiskKind}
 use Rattle.dm_types.specs.declared.reason.Reason.{Reason}
 use Rattle.dm_types.specs.declared.reason.Reason.TheVariants as reason
 use Rattle.dm_edge.specs.declared.fault.NetFault.{NetFault}
 use Rattle.dm_edge.specs.Wire.{Closed}
 use Rattle.dm_disk_model.specs.Disk.{DiskState}
-use Rattle.dm_words.specs.Command.{IsGet}
 use Rattle.dm_reply.specs.Reply.{IsWhole}
-use Rattle.dm_reply.proofs.Outcomes.{Outcome, Whole, Short, Other, Bad, Cut, one_outcome}
+use Rattle.dm_reply.proofs.Outcomes.{Whole, Short, Other, Bad, Cut, one_outcome}
 use Rattle.dm_cli.specs.declared.ending.Ending.{Ending}
 use Rattle.dm_cli.specs.declared.ending.Ending.TheVariants.{Complete, Interrupted, BadWords, BadAddress, DiskFailed, NoMemory}
 use Rattle.dm_cli.specs.Get.{IsTaken, IsMet, NetFailed}
-use Rattle.dm_cli.specs.Run.{RunSays, Completes, NoneRose}
+use Rattle.dm_cli.specs.Run.{RunSays, Completes}
 use Rattle.dm_cli.proofs.Running.{same_name}
 
 -- one connection more is not none

@@ -1,13 +1,12 @@
 -- One more piece of content, and the end of it.
-use Rattle.std.proofs.Common.{◌≡◌, ℕ, ◌+◌, List, [], ◌++◌, length, Option, Some, None, Ok, Err, sym, ◌∙◌, ap, arith, length-append}
+use Rattle.std.proofs.Common.{◌≡◌, ℕ, ◌+◌, List, ◌++◌, length, Err, arith, length-append}
 use Rattle.dm_edge.specs.Wire.{Told}
 use Rattle.dm_disk_model.specs.declared.place.Place.{Place}
 use Rattle.dm_disk_model.specs.Disk.{DiskState}
-use Rattle.dm_reply.specs.Content.{Reading, HasRead}
-use Rattle.dm_cli.specs.declared.copying.Landed.TheVariants.{More, End}
+use Rattle.dm_reply.specs.Content.{Reading}
 use Rattle.dm_cli.specs.declared.copying.Stopped.{Stopped}
 use Rattle.dm_cli.specs.declared.copying.Stopped.TheVariants as stopped
-use Rattle.dm_cli.specs.Copying.{Lands, IsCopied, CopiedSoFar, LandedSays, CopySays}
+use Rattle.dm_cli.specs.Copying.{Lands, CopiedSoFar, LandedSays, CopySays}
 
 -- the piece lies behind what was copied so far
 pub one_more : (told : Told) (reading : Reading) (disk : DiskState) (part : Place) (content : List ℕ) (at count : ℕ) → at ≡ length content

@@ -1,5 +1,5 @@
 -- What an ending says, from an earlier moment, and of an interruption.
-use Rattle.std.proofs.Common.{◌≡◌, ℕ, ◌+◌, ◌≤◌, List, length, take, inl, inr, sym, ◌∙◌, ap, subst, refl, arith}
+use Rattle.std.proofs.Common.{◌≡◌, ℕ, ◌≤◌, List, length, sym, ◌∙◌, ap, subst, arith}
 use Rattle.std.proofs.lemmas.List.{take_all}
 use Rattle.dm_types.specs.Faults.{Rose, NoneFell}
 use Rattle.dm_types.specs.declared.kinds.DiskKind.{DiskKind}

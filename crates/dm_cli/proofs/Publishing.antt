@@ -1,8 +1,8 @@
 -- Every moment of the steps that lead to a name.
-use Rattle.std.proofs.Common.{◌≡◌, List, ℕ, inl, sym}
+use Rattle.std.proofs.Common.{List, ℕ, inl, sym}
 use Rattle.std.specs.Prelude.{◌≢◌}
 use Rattle.dm_disk_model.specs.declared.place.Place.{Place}
-use Rattle.dm_disk_model.specs.Disk.{DiskState, History, now}
+use Rattle.dm_disk_model.specs.Disk.{History, now}
 use Rattle.dm_disk_model.specs.Names.{NeverStands, LeavesNothingOr, Throughout, KeepsOthers}
 use Rattle.dm_disk_model.proofs.Naming.{absent_leaves, throughout_weaker}
 

@@ -1,9 +1,8 @@
 -- What a run of a command says.
-use Rattle.std.proofs.Common.{◌≡◌, ℕ, List, ◌∷◌, [], inl, inr, refl, sym, ◌∙◌, ap, subst}
+use Rattle.std.proofs.Common.{◌≡◌, ℕ, List, ◌∷◌, [], inl, inr, sym, ◌∙◌, ap}
 use Rattle.dm_types.specs.declared.kinds.DiskKind.{DiskKind}
 use Rattle.dm_edge.specs.declared.fault.NetFault.{NetFault}
 use Rattle.dm_edge.specs.Wire.{Closed}
-use Rattle.dm_disk_model.specs.declared.place.Place.{Place}
 use Rattle.dm_disk_model.specs.Disk.{DiskState}
 use Rattle.dm_words.specs.Command.{IsGet}
 use Rattle.dm_cli.specs.declared.ending.Ending.{Ending}

@@ -2,7 +2,7 @@
 use Rattle.std.proofs.Common.{◌≡◌, List, ℕ, Some, None, inl, inr}
 use Rattle.std.specs.Prelude.{◌⊎◌}
 use Rattle.dm_disk_model.specs.declared.place.Place.{Place}
-use Rattle.dm_disk_model.specs.Disk.{DiskState, Image, History, MayLeave}
+use Rattle.dm_disk_model.specs.Disk.{DiskState, Image, History}
 use Rattle.dm_disk_model.specs.Names.{image_at, NeverStands, LeavesNothingOr, Throughout}
 use Rattle.dm_disk_model.proofs.Naming.{absent_leaves, throughout_weaker}
 use Rattle.dm_reply.specs.Reply.{IsWhole}

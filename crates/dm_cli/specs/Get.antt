@@ -1,5 +1,5 @@
 -- What a get did: by its ending, on the disk, over the stream of its one connection.
-use Rattle.std.specs.Prelude.{◌≡◌, ◌≢◌, ◌⊎◌, ℕ, List, [], ◌∷◌, ◌++◌, length, take, Option, Some, None, IsSome}
+use Rattle.std.specs.Prelude.{◌≡◌, ◌≢◌, ◌⊎◌, ℕ, List, [], ◌∷◌, ◌++◌, length, take, Some, None, IsSome}
 use Rattle.dm_types.specs.Faults.{Rose}
 use Rattle.dm_types.specs.declared.kinds.DiskKind.{DiskKind}
 use Rattle.dm_types.specs.declared.reason.Reason.{Reason}
@@ -12,7 +12,7 @@ use Rattle.dm_edge.specs.Wire.{Asked, Closed}
 use Rattle.dm_disk_model.specs.declared.place.Area.TheVariants.{Files}
 use Rattle.dm_disk_model.specs.declared.place.Place.{Place}
 use Rattle.dm_disk_model.specs.Folder.{names_of}
-use Rattle.dm_disk_model.specs.Disk.{DiskState, Image, History, now, bytes_at, MayLeave}
+use Rattle.dm_disk_model.specs.Disk.{DiskState, Image, bytes_at, MayLeave}
 use Rattle.dm_disk_model.specs.Names.{image_at, LeavesJust}
 use Rattle.dm_words.specs.Name.{fold_case}
 use Rattle.dm_words.specs.Part.{part_name}

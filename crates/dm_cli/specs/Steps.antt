@@ -13,7 +13,7 @@ use Rattle.dm_words.specs.Printed.{complete_line, interrupted_line}
 use Rattle.dm_cli.specs.declared.copying.Stopped.{Stopped}
 use Rattle.dm_cli.specs.declared.copying.Stopped.TheVariants as stopped
 use Rattle.dm_cli.specs.declared.ending.Ending.{Ending}
-use Rattle.dm_cli.specs.declared.ending.Ending.TheVariants.{Complete, Interrupted, BadWords, BadAddress, DiskFailed, NoMemory}
+use Rattle.dm_cli.specs.declared.ending.Ending.TheVariants.{Complete, Interrupted, DiskFailed, NoMemory}
 use Rattle.dm_cli.specs.Get.{IsLeft}
 
 -- the ending is this interruption with its line, or memory was wanting for that

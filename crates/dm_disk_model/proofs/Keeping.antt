@@ -1,5 +1,5 @@
 -- What is done at one place keeps the others, call by call and call after call.
-use Rattle.std.proofs.Common.{◌≡◌, ℕ, ◌≤◌, List, Result, inl, inr, refl, sym, ◌∙◌, subst, arith}
+use Rattle.std.proofs.Common.{◌≡◌, ℕ, List, Result, inl, inr, refl, sym, ◌∙◌, subst, arith}
 use Rattle.std.specs.Prelude.{◌≢◌}
 use Rattle.std.proofs.lemmas.Bool.{cases_lt}
 use Rattle.dm_disk_model.specs.declared.place.Area.{Area}

@@ -1,4 +1,4 @@
-use Rattle.std.proofs.Common.{◌≡◌, ℕ, ◌+◌, ◌∙◌, arith}
+use Rattle.std.proofs.Common.{◌∙◌, arith}
 use Rattle.dm_disk_model.specs.Disk.{now}
 use Rattle.dm_disk_model.proofs.Keeping.{keeps_then}
 use Rattle.dm_cli.proofs.Copied.{one_more}

@@ -1,4 +1,4 @@
-use Rattle.std.proofs.Common.{◌≡◌, ℕ, ◌-◌, ◌<◌, [], length, None}
+use Rattle.std.proofs.Common.{◌≡◌, ◌-◌, ◌<◌, [], length, None}
 use Rattle.dm_types.specs.Faults.{NoneFell}
 use Rattle.dm_disk_model.specs.Disk.{now, Stands}
 use Rattle.dm_disk_model.specs.Names.{KeepsOthers}

@@ -1,4 +1,4 @@
-use Rattle.std.proofs.Common.{◌≡◌, ℕ, List, [], ◌∷◌, ◌++◌, inl, inr, sym, ◌∙◌, ap, subst, arith}
+use Rattle.std.proofs.Common.{ℕ, List, [], ◌∷◌, ◌++◌, inr, ◌∙◌, ap, subst}
 use Rattle.dm_disk_model.specs.Disk.{now}
 use Rattle.dm_edge.specs.Wire.{Closed, closed_of, stream_of}
 use Rattle.dm_cli.specs.Get.{WireFailed, NetFailed, SentFor}

@@ -1,4 +1,4 @@
-use Rattle.std.proofs.Common.{◌≡◌, List, ℕ, [], ◌++◌, ◌∙◌, ap}
+use Rattle.std.proofs.Common.{List, ℕ, ◌++◌, ◌∙◌, ap}
 use Rattle.dm_cli.proofs.Endings.{sent_whole}
 use Rattle.dm_cli.proofs.get.bring.Goals as goal
 

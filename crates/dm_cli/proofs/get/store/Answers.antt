@@ -1,6 +1,5 @@
-use Rattle.std.proofs.Common.{◌≡◌, List, ℕ, ◌++◌, refl, sym, ◌∙◌, ap, subst, append_assoc}
+use Rattle.std.proofs.Common.{◌≡◌, ◌∙◌, ap, subst}
 use Rattle.dm_disk_model.specs.Disk.{DiskState, now, bytes_at}
-use Rattle.dm_disk_model.specs.declared.place.Place.{Place}
 use Rattle.dm_types.specs.declared.reason.Reason.TheVariants as reason
 use Rattle.dm_edge.specs.Wire.{stream_of}
 use Rattle.dm_reply.proofs.HeadLemmas.{plain_more}

@@ -1,4 +1,3 @@
-use Rattle.std.proofs.Common.{◌∙◌}
 use Rattle.dm_disk_model.specs.Names.{NeverStands}
 use Rattle.dm_disk_model.proofs.Keeping.{keeps_then, throughout_join, throughout_now}
 use Rattle.dm_cli.specs.Get.{NeverPartial}

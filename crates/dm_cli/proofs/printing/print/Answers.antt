@@ -1,6 +1,6 @@
-use Rattle.std.proofs.Common.{◌≡◌, ℕ, List, ◌++◌, length, take, inl, inr, refl, sym, ◌∙◌, ap, subst, arith}
+use Rattle.std.proofs.Common.{ℕ, List, ◌++◌, length, inr, refl, sym, ◌∙◌, ap, subst, arith}
 use Rattle.std.proofs.lemmas.List.{take_all}
-use Rattle.dm_cli.specs.Ending.{out_text, errs_text}
+use Rattle.dm_cli.specs.Ending.{out_text}
 use Rattle.dm_cli.specs.Print.{WritesSome}
 use Rattle.dm_cli.proofs.printing.print.Goals as goal
 
