@@ -1,0 +1,121 @@
+ghost use Rattle.std.specs.Prelude.{◌≡◌, ◌+◌, ◌<◌, ◌≤◌, ◌↔◌, ◌⊎◌, ◌^◌, ◌++◌, ◌∷◌, [], false, IsTrue, None, Some, unwrap_or, IfSome, IfOk, OnOk, OnErr, MatchOption, length, map, ℕ};
+ghost use Rattle.dm_slice.specs.Cover.{IsCoverWithin};
+
+use crate::words;
+use dm_types::{MOST_SLICES, NoMemory, Slice, Slices};
+use std::alloc::Global;
+use std::marker::Model;
+
+/// The longest content of one item, in bytes.
+pub const MOST_BYTES: u64 = 1_099_511_627_776;
+
+/// Which bytes of a content are there. The slices rise from the place 0 on and don't overlap; there is
+/// at least one and there are at most 64.
+#[derive(Debug, Drop)]
+pub struct Cover {
+    slices: Vec<Slice>,
+    alloc: Global,
+}
+
+impl Model for Cover {
+    ghost use Rattle.std.specs.Prelude.{List, length, ◌≤◌, vec_capacity};
+    ghost use Rattle.dm_types.specs.declared.slices.Slice.{Slice};
+    ghost use Rattle.dm_slice.specs.Cover.{IsCover};
+
+    ghost Value = { List Slice };
+
+    ghost view = { λ c. c.slices.items };
+
+    ghost invariant = { λ c. record {
+      cover : IsCover c.slices.items;
+      most : length c.slices.items ≤ 64;
+    } };
+}
+
+impl Cover {
+    ghost use Rattle.dm_slice.specs.Words.{covered, end_of, HasByte, IsFull, IsNormal, IsWithin};
+    ghost use Rattle.dm_slice.specs.Cover.{IsAdded, IsCover, IsCoverWithin, IsNormalOf, grown, limit_at, next_of, normal_of};
+
+    /// A cover without a byte.
+    pub fn empty(alloc: Global) -> Result<Cover, NoMemory>
+        ensures { IfOk result (λ cover. cover ≡ record { first = 0; got = 0; finished = false } ∷ []) }
+    {
+        let mut slices = Vec::with_capacity(alloc, MOST_SLICES)?;
+        slices.push(Slice {
+            first: 0,
+            got: 0,
+            finished: false,
+        })?;
+        Ok(Cover { slices, alloc })
+    }
+
+    /// The cover that these slices are; none where they aren't a normal cover within the total, where
+    /// one is known, and within 2^40.
+    pub fn from_slices(
+        alloc: Global,
+        slices: &Slices,
+        total: Option<u64>,
+    ) -> Result<Option<Cover>, NoMemory>
+        ensures some { IfOk result (λ found. IfSome found (λ cover. cover ≡ slices.now)) }
+        ensures none { IfOk result
+            (λ found. (found ≡ None) ↔ ¬ IsCoverWithin total slices.now) }
+    {
+        let kept = slices.items();
+        if !is_cover_within(kept, total) {
+            return Ok(None);
+        }
+        let mut slices = Vec::with_capacity(alloc, MOST_SLICES)?;
+        slices.extend_from_slice(kept)?;
+        Ok(Some(Cover { slices, alloc }))
+    }
+
+    /// How many bytes are there.
+    pub fn covered(&self) -> u64
+        ensures value { result ≡ covered self.now }
+        ensures bound { result ≤ 2 ^ 40 }
+    {
+        words::covered(&self.slices) as u64
+    }
+
+    /// The place behind the slice at place `k` of the list, where there is one.
+    pub fn next_place(&self, k: u32) -> Option<u64>
+        ensures { result ≡ next_of self.now k }
+    {
+        let k = k as usize;
+        if k >= self.slices.len() {
+            return None;
+        }
+        let slice = self.slices[k];
+        Some(slice.first + slice.got)
+    }
+
+    /// The slice at place `k` of the list has `n` bytes more.
+    pub fn grow(&mut self, k: u32, n: u64)
+        requires there { k < length self.old }
+        requires room { unwrap_or (next_of self.old k) 0 + n ≤ limit_at self.old k }
+        ensures value { self.new ≡ grown self.old k n }
+        ensures places { (place : ℕ) → HasByte self.new place
+            ↔ (HasByte self.old place ⊎ IsAdded self.old k n place) }
+    {
+        self.slices[k as usize].got += n;
+    }
+
+    /// Whether every byte below the total is there.
+    pub fn is_full(&self, total: u64) -> bool
+        ensures { IsTrue result ↔ IsFull total self.now }
+    {
+        words::is_full(&self.slices, total)
+    }
+}
+
+/// Whether the slices are a normal cover within the total, or within 2^40.
+fn is_cover_within(slices: &[Slice], total: Option<u64>) -> bool
+    ensures { IsTrue result ↔ IsCoverWithin total slices.now }
+{
+    words::is_normal(slices, total)
+        && words::is_within(slices, MOST_BYTES)
+        && match total {
+            Some(total) => words::is_within(slices, total),
+            None => true,
+        }
+}
