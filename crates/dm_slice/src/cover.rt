@@ -1,5 +1,5 @@
 ghost use Rattle.std.specs.Prelude.{◌≡◌, ◌+◌, ◌<◌, ◌≤◌, ◌↔◌, ◌⊎◌, ◌^◌, ◌++◌, ◌∷◌, [], false, IsTrue, None, Some, unwrap_or, IfSome, IfOk, OnOk, OnErr, MatchOption, length, map, ℕ};
-ghost use Rattle.dm_slice.specs.Cover.{IsCoverWithin};
+ghost use Rattle.dm_slice.specs.Cover.{IsCover, IsCoverWithin, IsRising, joined, marked, normal_of};
 
 use crate::words;
 use dm_types::{MOST_SLICES, NoMemory, Slice, Slices};
@@ -34,7 +34,7 @@ impl Model for Cover {
 
 impl Cover {
     ghost use Rattle.dm_slice.specs.Words.{covered, end_of, HasByte, IsFull, IsNormal, IsWithin};
-    ghost use Rattle.dm_slice.specs.Cover.{IsAdded, IsCover, IsCoverWithin, IsNormalOf, grown, limit_at, next_of, normal_of};
+    ghost use Rattle.dm_slice.specs.Cover.{IsAdded, IsNormalOf, grown, limit_at, next_of};
 
     /// A cover without a byte.
     pub fn empty(alloc: Global) -> Result<Cover, NoMemory>
@@ -100,6 +100,14 @@ impl Cover {
         self.slices[k as usize].got += n;
     }
 
+    /// The normal list with the same bytes, marked for the total.
+    pub fn normal(&self, total: Option<u64>) -> Result<Slices, NoMemory>
+        ensures value { IfOk result (λ slices. slices ≡ normal_of total self.now) }
+        ensures meaning { IfOk result (IsNormalOf total self.now) }
+    {
+        normal_slices(self.alloc, &self.slices, total)
+    }
+
     /// Whether every byte below the total is there.
     pub fn is_full(&self, total: u64) -> bool
         ensures { IsTrue result ↔ IsFull total self.now }
@@ -118,4 +126,52 @@ fn is_cover_within(slices: &[Slice], total: Option<u64>) -> bool
             Some(total) => words::is_within(slices, total),
             None => true,
         }
+}
+
+/// The normal list with the bytes of a cover.
+fn normal_slices(alloc: Global, slices: &[Slice], total: Option<u64>) -> Result<Slices, NoMemory>
+    requires cover { IsCover slices.now }
+    requires most { length slices.now ≤ 64 }
+    ensures { IfOk result (λ normal. normal ≡ normal_of total slices.now) }
+{
+    let mut done = Slices::new(alloc);
+    if let [first, rest @ ..] = slices {
+        join(&mut done, *first, rest, total)?;
+    }
+    Ok(done)
+}
+
+/// Adds `now` and the slices behind it, where those that touch are one.
+fn join(done: &mut Slices, now: Slice, rest: &[Slice], total: Option<u64>) -> Result<(), NoMemory>
+    requires room { length done.old + length rest.now < 64 }
+    requires rising { IsRising now.first (now ∷ rest.now) }
+    ensures { OnOk result (done.new ≡ done.old ++ map (marked total) (joined now rest.now)) }
+{
+    match rest {
+        [] => done.push(mark(now, total)),
+        [slice, rest @ ..] => {
+            if slice.got == 0 {
+                join(done, now, rest, total)
+            } else if slice.first == now.first + now.got {
+                let more = Slice {
+                    got: now.got + slice.got,
+                    ..now
+                };
+                join(done, more, rest, total)
+            } else {
+                done.push(mark(now, total))?;
+                join(done, *slice, rest, total)
+            }
+        }
+    }
+}
+
+/// The slice with the right mark.
+fn mark(slice: Slice, total: Option<u64>) -> Slice
+    ensures { result ≡ marked total slice }
+{
+    Slice {
+        finished: words::ends_content(&slice, total),
+        ..slice
+    }
 }

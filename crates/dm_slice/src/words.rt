@@ -76,7 +76,7 @@ fn is_marked(slices: &[Slice], total: Option<u64>) -> bool
 }
 
 /// Whether the slice has bytes and ends where the content ends.
-fn ends_content(slice: &Slice, total: Option<u64>) -> bool
+pub(crate) fn ends_content(slice: &Slice, total: Option<u64>) -> bool
     ensures { result ≡ is_last total slice.now }
 {
     match total {
