@@ -106,9 +106,15 @@ rising-apart : (end : ℕ) (slices : List Slice) → IsApart end slices → IsWi
 rising-apart end [] apart within = tt
 rising-apart end (slice ∷ rest) apart within = (omega arith, within.0, rising-apart (end_of slice) rest apart.2 within.1)
 
+pub cover-apart : (slice : Slice) (rest : List Slice) → slice.first ≡ 0 → IsApart (end_of slice) rest → IsWithin (2 ^ 40) (slice ∷ rest) → IsCover (slice ∷ rest)
+cover-apart slice rest first far within = (first, (omega arith, within.0, rising-apart (end_of slice) rest far within.1))
+
+pub cover-normal : (total : Option ℕ) (slices : List Slice) → IsNormal total slices → IsWithin (2 ^ 40) slices → IsCover slices
+cover-normal total [] normal within = absurd normal
+cover-normal total (slice ∷ rest) normal within = cover-apart slice rest normal.0 normal.1 within
+
 pub cover-within : (total : Option ℕ) (slices : List Slice) → IsCoverWithin total slices → IsCover slices
-cover-within total [] is = absurd is.normal
-cover-within total (slice ∷ rest) is = (is.normal.0, (omega arith, is.greatest.0, rising-apart (end_of slice) rest is.normal.1 is.greatest.1))
+cover-within total slices is = cover-normal total slices is.normal is.greatest
 
 -- all of what growing does where the slice was read and written at its place
 pub record GrewAt (slices after : List Slice) (k more : ℕ) : Type 0 where

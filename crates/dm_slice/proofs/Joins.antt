@@ -10,29 +10,29 @@ use Rattle.dm_slice.specs.Cover.{IsRising, IsCover, IsNormalOf, SamePlaces, join
 abbrev pub with_more : Slice → Slice → Slice
 with_more now slice = record now { got = now.got + slice.got }
 
-joined-empty : (now slice : Slice) (rest : List Slice) → slice.got ≡ 0 → joined now (slice ∷ rest) ≡ joined now rest
+pub joined-empty : (now slice : Slice) (rest : List Slice) → slice.got ≡ 0 → joined now (slice ∷ rest) ≡ joined now rest
 joined-empty now slice rest empty = grind (arith, nat_tests)
 
-joined-touch : (now slice : Slice) (rest : List Slice) → 0 < slice.got → slice.first ≡ end_of now → joined now (slice ∷ rest) ≡ joined (with_more now slice) rest
+pub joined-touch : (now slice : Slice) (rest : List Slice) → 0 < slice.got → slice.first ≡ end_of now → joined now (slice ∷ rest) ≡ joined (with_more now slice) rest
 joined-touch now slice rest full touch = grind (arith, nat_tests)
 
-joined-apart : (now slice : Slice) (rest : List Slice) → 0 < slice.got → end_of now < slice.first → joined now (slice ∷ rest) ≡ now ∷ joined slice rest
+pub joined-apart : (now slice : Slice) (rest : List Slice) → 0 < slice.got → end_of now < slice.first → joined now (slice ∷ rest) ≡ now ∷ joined slice rest
 joined-apart now slice rest full apart = grind (arith, nat_tests)
 
 -- where a slice stands to the one before
-data Meets (now slice : Slice) : Type 0 where
+pub data Meets (now slice : Slice) : Type 0 where
   empty : slice.got ≡ 0 → Meets now slice
   touch : 0 < slice.got → slice.first ≡ end_of now → Meets now slice
   apart : 0 < slice.got → end_of now < slice.first → Meets now slice
 
-meets : (now slice : Slice) → end_of now ≤ slice.first → Meets now slice
+pub meets : (now slice : Slice) → end_of now ≤ slice.first → Meets now slice
 meets now slice behind =
     elim (cases_lt 0 slice.got) [
       | inl full ↦ elim (cases_lt (end_of now) slice.first) [ inl far ↦ apart full far | inr near ↦ touch full (omega arith) ]
       | inr none ↦ empty (omega arith)
     ]
 
-rising-later : (end other : ℕ) (rest : List Slice) → IsRising other rest → end ≤ other → IsRising end rest
+pub rising-later : (end other : ℕ) (rest : List Slice) → IsRising other rest → end ≤ other → IsRising end rest
 rising-later end other [] rising before = tt
 rising-later end other (slice ∷ rest) rising before = (omega arith, rising.1, rising.2)
 

@@ -1,2 +1,4 @@
 pub mod Covers
 pub mod Joins
+pub mod Plans
+pub mod Opened

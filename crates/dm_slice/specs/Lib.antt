@@ -1,2 +1,3 @@
 pub mod Words
 pub mod Cover
+pub mod Plan

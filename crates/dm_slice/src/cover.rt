@@ -1,7 +1,10 @@
 ghost use Rattle.std.specs.Prelude.{◌≡◌, ◌+◌, ◌<◌, ◌≤◌, ◌↔◌, ◌⊎◌, ◌^◌, ◌++◌, ◌∷◌, [], false, IsTrue, None, Some, unwrap_or, IfSome, IfOk, OnOk, OnErr, MatchOption, length, map, ℕ};
+ghost use Rattle.dm_slice.specs.Words.{IsWithin};
+ghost use Rattle.dm_slice.specs.Plan.{IsPlanned};
 ghost use Rattle.dm_slice.specs.Cover.{IsCover, IsCoverWithin, IsRising, joined, marked, normal_of};
 
-use crate::words;
+use crate::plan::{Part, Plan, Rule};
+use crate::{plan, words};
 use dm_types::{MOST_SLICES, NoMemory, Slice, Slices};
 use std::alloc::Global;
 use std::marker::Model;
@@ -33,7 +36,7 @@ impl Model for Cover {
 }
 
 impl Cover {
-    ghost use Rattle.dm_slice.specs.Words.{covered, end_of, HasByte, IsFull, IsNormal, IsWithin};
+    ghost use Rattle.dm_slice.specs.Words.{covered, end_of, HasByte, IsFull, IsNormal};
     ghost use Rattle.dm_slice.specs.Cover.{IsAdded, IsNormalOf, grown, limit_at, next_of};
 
     /// A cover without a byte.
@@ -108,6 +111,23 @@ impl Cover {
         normal_slices(self.alloc, &self.slices, total)
     }
 
+    /// Makes the cover normal, and gives at most `n` parts that fill its first holes below the total,
+    /// none below `min` bytes where a hole is cut. A part that begins where a slice ends continues
+    /// it, and each other part is added as a slice without a byte.
+    pub fn plan(&mut self, total: u64, n: u32, min: u64) -> Result<Plan, NoMemory>
+        requires some { 1 ≤ n }
+        requires few { n ≤ 16 }
+        requires min { 1 ≤ min }
+        requires total { total ≤ 2 ^ 40 }
+        requires within { IsWithin total self.old }
+        ensures plan { IfOk result (IsPlanned total n min self.old self.new) }
+        ensures err { OnErr result (self.new ≡ self.old) }
+    {
+        let (slices, parts) = planned(self.alloc, &self.slices, Rule { total, least: min }, n)?;
+        self.slices = slices;
+        Ok(Plan::from_vec(parts))
+    }
+
     /// Whether every byte below the total is there.
     pub fn is_full(&self, total: u64) -> bool
         ensures { IsTrue result ↔ IsFull total self.now }
@@ -174,4 +194,37 @@ fn mark(slice: Slice, total: Option<u64>) -> Slice
         finished: words::ends_content(&slice, total),
         ..slice
     }
+}
+
+/// The normal list with the empty slices of a plan, and the plan's parts.
+fn planned(
+    alloc: Global,
+    slices: &[Slice],
+    rule: Rule,
+    n: u32,
+) -> Result<(Vec<Slice>, Vec<Part>), NoMemory>
+    requires cover { IsCover slices.now }
+    requires most { length slices.now ≤ 64 }
+    requires few { n ≤ 16 }
+    requires least { 1 ≤ rule.least }
+    requires total { rule.total ≤ 2 ^ 40 }
+    requires within { IsWithin rule.total slices.now }
+    ensures plan { IfOk result (λ both.
+        IsPlanned rule.total n rule.least slices.now both.0.items both.1.items) }
+    ensures cover { IfOk result (λ both. IsCover both.0.items) }
+    ensures most { IfOk result (λ both. length both.0.items ≤ 64) }
+{
+    let normal = normal_slices(alloc, slices, Some(rule.total))?;
+    let mut opened = Vec::with_capacity(alloc, MOST_SLICES)?;
+    let mut parts = Vec::new(alloc);
+    let room = MOST_SLICES as u64 - normal.count();
+    plan::walk(
+        rule,
+        normal.items(),
+        u64::from(n),
+        room,
+        &mut opened,
+        &mut parts,
+    )?;
+    Ok((opened, parts))
 }

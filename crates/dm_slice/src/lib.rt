@@ -2,7 +2,9 @@
 #![tactic(auto)]
 
 mod cover;
+mod plan;
 mod words;
 
 pub use cover::{Cover, MOST_BYTES};
+pub use plan::{Part, Plan};
 pub use words::{has_byte, is_normal, is_within};
