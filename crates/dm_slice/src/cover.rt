@@ -137,7 +137,7 @@ impl Cover {
 }
 
 /// Whether the slices are a normal cover within the total, or within 2^40.
-fn is_cover_within(slices: &[Slice], total: Option<u64>) -> bool
+pub fn is_cover_within(slices: &[Slice], total: Option<u64>) -> bool
     ensures { IsTrue result ↔ IsCoverWithin total slices.now }
 {
     words::is_normal(slices, total)

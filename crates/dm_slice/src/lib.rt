@@ -5,6 +5,6 @@ mod cover;
 mod plan;
 mod words;
 
-pub use cover::{Cover, MOST_BYTES};
+pub use cover::{Cover, MOST_BYTES, is_cover_within};
 pub use plan::{Part, Plan};
-pub use words::{has_byte, is_normal, is_within};
+pub use words::{cover_end, covered, has_byte, holds, is_full, is_normal, is_within};
