@@ -1,5 +1,5 @@
 -- The list of items as it is kept, and what one entry makes of it.
-use Rattle.std.specs.Prelude.{◌≡◌, ◌≢◌, ℕ, ◌+◌, ◌≤◌, ◌<◌, ◌^◌, Bool, true, false, ◌==◌, cond, ◌⊎◌, ◌↔◌, List, [], ◌∷◌, ◌++◌, map, length, Option, Some, None, IsSome, IsSomeAnd, IfSome, IsTrue, option_and_then}
+use Rattle.std.specs.Prelude.{◌≡◌, ◌≢◌, ℕ, ◌+◌, ◌≤◌, ◌<◌, ◌^◌, Bool, true, false, ◌==◌, cond, ◌⊎◌, ◌↔◌, List, [], ◌∷◌, ◌++◌, map, length, Option, Some, None, IsSome, IsSomeAnd, IfSome, IsTrue, option_and_then, find, position}
 use Rattle.dm_types.specs.declared.item.Item.{Item}
 use Rattle.dm_types.specs.declared.item.ItemId.{ItemId}
 use Rattle.dm_types.specs.declared.item.Key.{Key}
@@ -16,7 +16,7 @@ use Rattle.dm_policy.specs.Mode.{is_invalid}
 use Rattle.dm_slice.specs.Words.{IsFull, IsNormal, IsWithin}
 use Rattle.dm_slice.specs.Cover.{IsWithinTotal}
 use Rattle.dm_item.specs.Fields.{added_item, is_gone, is_running, no_bytes}
-use Rattle.dm_item.specs.Row.{Further, IsSameName, allows, changed, is_cancelled, is_complete, is_finishing, is_waiting, kind_of, mode_of_item, name_of, stopped_item}
+use Rattle.dm_item.specs.Row.{Further, HasName, allows, changed, is_cancelled, is_complete, is_finishing, is_waiting, kind_of, mode_of_item, name_of, stopped_item}
 
 pub record Listing : Type 0 where
   -- how many items are taken on
@@ -32,8 +32,11 @@ pub record Listing : Type 0 where
 
 -- the item with an id
 abbrev pub item_in : ℕ → List Item → Option Item
-item_in id [] = None
-item_in id (item ∷ rest) = cond (item.id.0 == id) (Some item) (item_in id rest)
+item_in id items = find (λ item. item.id.0 == id) items
+
+-- the first place of an item with this id
+abbrev pub place_in : ℕ → List Item → Option ℕ
+place_in id items = position (λ item. item.id.0 == id) items
 
 -- the list with another item under an id
 abbrev pub put_in : ℕ → Item → List Item → List Item
@@ -59,10 +62,9 @@ abbrev pub IsAbove : ℕ → List Item → Type 0
 IsAbove id [] = Unit {0}
 IsAbove id (item ∷ rest) = (item.id.0 < id) × IsAbove id rest
 
--- neither the item nor another one with its name is cancelled
+-- the names of two items differ, where both have one and neither is cancelled
 abbrev pub IsApartFrom : Item → Item → Type 0
-IsApartFrom item other =
-    is_cancelled item.phase ≡ false → is_cancelled other.phase ≡ false → IfSome item.name (λ name. IfSome other.name (λ theirs. ¬ IsSameName name theirs))
+IsApartFrom item other = is_cancelled item.phase ≡ false → is_cancelled other.phase ≡ false → IfSome item.name (λ name. ¬ HasName other name)
 
 abbrev pub HasOwnName : Item → List Item → Type 0
 HasOwnName item [] = Unit {0}

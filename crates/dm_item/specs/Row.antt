@@ -161,11 +161,18 @@ abbrev pub IsKeyOf : Item → Key → Type 0
 IsKeyOf item (Strong tag) = Unit {0}
 IsKeyOf item (Once id attempt) = (id.0 ≡ item.id.0) × (attempt.0 ≡ item.attempt.0)
 
+-- the item has the name
+abbrev pub HasNameIn : Option (List ℕ) → List ℕ → Type 0
+HasNameIn None name = ⊥
+HasNameIn (Some other) name = IsSameName name other
+
+abbrev pub HasName : Item → List ℕ → Type 0
+HasName item name = HasNameIn item.name name
+
 -- no other item but the cancelled ones has the name
 abbrev pub IsFreeName : ℕ → List ℕ → List Item → Type 0
 IsFreeName id name [] = Unit {0}
-IsFreeName id name (item ∷ rest) =
-    (item.id.0 ≢ id → is_cancelled item.phase ≡ false → IfSome item.name (λ other. ¬ IsSameName name other)) × IsFreeName id name rest
+IsFreeName id name (item ∷ rest) = (item.id.0 ≢ id → is_cancelled item.phase ≡ false → ¬ HasName item name) × IsFreeName id name rest
 
 pub record IsDescribed (items : List Item) (item : Item) (key : Key) (total : Option ℕ) (name : List ℕ) : Type 0 where
   pub no_key : item.key ≡ None
