@@ -1,5 +1,5 @@
 -- The list of items as it is kept, and what one entry makes of it.
-use Rattle.std.specs.Prelude.{◌≡◌, ◌≢◌, ℕ, ◌+◌, ◌≤◌, ◌<◌, ◌^◌, Bool, true, false, ◌==◌, cond, ◌⊎◌, ◌↔◌, List, [], ◌∷◌, ◌++◌, map, length, Option, Some, None, IsSome, IsSomeAnd, IfSome, IsTrue, option_and_then, find, position}
+use Rattle.std.specs.Prelude.{◌≡◌, ◌≢◌, ℕ, ◌+◌, ◌≤◌, ◌<◌, ◌^◌, Bool, true, false, ◌==◌, cond, ◌⊎◌, ◌↔◌, List, [], ◌∷◌, ◌++◌, map, length, Option, Some, None, is_some, IsSome, ◌||◌, IsSomeAnd, IfSome, IsTrue, option_and_then, find, position}
 use Rattle.dm_types.specs.declared.item.Item.{Item}
 use Rattle.dm_types.specs.declared.item.ItemId.{ItemId}
 use Rattle.dm_types.specs.declared.item.Key.{Key}
@@ -80,10 +80,12 @@ pub record IsCovered (total : Option ℕ) (slices : List Slice) : Type 0 where
   pub within : IsWithinTotal total slices
 
 -- what a Described tells is there as a whole, and in a begun item, or not at all
-abbrev pub IsTold : Option Key → Option (List ℕ) → Option (List ℕ) → Option (List ℕ) → Bool → Option ℕ → List Slice → Type 0
-IsTold (Some key) (Some last_address) (Some name) (Some modified) begun total slices = IsTrue begun
-IsTold None None None None begun total slices = (total ≡ None) × (slices ≡ no_bytes)
-IsTold _ _ _ _ begun total slices = ⊥
+pub record IsTold (key : Option Key) (last_address name modified : Option (List ℕ)) (begun : Bool) (total : Option ℕ) (slices : List Slice) : Type 0 where
+  pub has_address : is_some last_address ≡ is_some key
+  pub has_name : is_some name ≡ is_some key
+  pub has_modified : is_some modified ≡ is_some key
+  pub is_begun : IsTrue (is_some key) → IsTrue begun
+  pub untold : is_some key ≡ false → (is_some total ≡ false) × (slices ≡ no_bytes)
 
 -- the reason that a phase asks for
 abbrev pub IsReasonOf : Phase → Option Reason → Type 0
@@ -101,14 +103,25 @@ pub record IsCounted (phase : Phase) (begun : Bool) (epoch attempt : ℕ) : Type
   pub epoch_low : 1 ≤ epoch
   pub epoch_high : epoch ≤ attempt + cond begun 0 1
 
--- the whole content of a finished item is there
-abbrev pub IsWhole : Option Key → Option ℕ → List Slice → Type 0
-IsWhole key total slices = IsSome key × (IsSome total × IfSome total (λ bytes. IsFull bytes slices))
+-- every byte below the total is there
+abbrev pub IsFullFor : Option ℕ → List Slice → Type 0
+IsFullFor None slices = ⊥
+IsFullFor (Some total) slices = IsFull total slices
 
--- a complete item, and no other, has its digest, and it is the stated one
-abbrev pub IsDigestOf : Phase → Option (List ℕ) → Option (List ℕ) → Type 0
-IsDigestOf phases.Complete digest have = IsSome have × IfSome have (λ bytes. IfSome digest (λ stated. stated ≡ bytes))
-IsDigestOf _ digest have = have ≡ None
+-- the whole content of a finished item is there
+pub record IsWhole (key : Option Key) (total : Option ℕ) (slices : List Slice) : Type 0 where
+  pub has_key : IsSome key
+  pub full : IsFullFor total slices
+
+-- the digest is there, and is the stated one
+abbrev pub IsDigest : Option (List ℕ) → Option (List ℕ) → Type 0
+IsDigest digest None = ⊥
+IsDigest digest (Some have) = IfSome digest (λ stated. stated ≡ have)
+
+-- a complete item, and no other, has its digest
+abbrev pub IsDigestOf : Bool → Option (List ℕ) → Option (List ℕ) → Type 0
+IsDigestOf true digest have = IsDigest digest have
+IsDigestOf false digest have = is_some have ≡ false
 
 -- an item as a lawful history leaves it
 pub record IsSound (item : Item) : Type 0 where
@@ -117,18 +130,18 @@ pub record IsSound (item : Item) : Type 0 where
   pub reason : IsReasonOf item.phase item.reason
   pub mode : IsTrue (is_waiting item.phase) → is_invalid (mode_of_item item) ≡ false
   pub counted : IsCounted item.phase item.begun item.epoch.0 item.attempt.0
-  pub whole : IsTrue (is_finishing item.phase) ⊎ IsTrue (is_complete item.phase) → IsWhole item.key item.total item.slices
-  pub digest : IsDigestOf item.phase item.digest item.have
+  pub whole : IsTrue (is_finishing item.phase || is_complete item.phase) → IsWhole item.key item.total item.slices
+  pub digest : IsDigestOf (is_complete item.phase) item.digest item.have
 
 -- an item that a compaction wrote may follow these
-pub record IsRestorable (v : Listing) (item : Item) : Type 0 where
-  pub early : IsTrue v.is_early
+pub record IsRestorable (early : Bool) (next : ℕ) (items : List Item) (item : Item) : Type 0 where
+  pub is_early : IsTrue early
   pub first : 1 ≤ item.id.0
-  pub above : IsAbove item.id.0 v.items
-  pub below : item.id.0 < v.next
-  pub word : IsFreeWord item.word v.items
+  pub above : IsAbove item.id.0 items
+  pub below : item.id.0 < next
+  pub word : IsFreeWord item.word items
   pub sound : IsSound item
-  pub name : HasOwnName item v.items
+  pub name : HasOwnName item items
 
 -- the row of an entry that names an item
 abbrev pub Row : Entry → List Item → Option Item → Type 0
@@ -143,7 +156,7 @@ RowAt e items (Some id) = Row e items (item_in id.0 items)
 abbrev pub Meets : Listing → Entry → Type 0
 Meets v (entries.Added id word address wish digest at) = (id.0 ≡ v.next) × IsFreeWord word v.items
 Meets v (entries.Reopened next at) = (next ≡ v.next) ⊎ (IsTrue v.is_first × (1 ≤ next))
-Meets v (entries.Restored item) = IsRestorable v item
+Meets v (entries.Restored item) = IsRestorable v.is_early v.next v.items item
 Meets v e = RowAt e v.items (name_of e)
 
 -- there is room for one more item

@@ -2,6 +2,8 @@
 use Rattle.std.specs.Prelude.{◌≡◌, ◌≢◌, ℕ, ◌+◌, ◌≤◌, ◌<◌, ◌^◌, Bool, true, false, not, ◌&&◌, ◌||◌, ◌==◌, nat_lt, nat_le, if◌then◌else◌, ◌⊎◌, List, [], ◌∷◌, map, Option, Some, None, is_some, IsSome, IfSome, IsTrue}
 use Rattle.dm_types.specs.declared.item.Item.{Item}
 use Rattle.dm_types.specs.declared.item.ItemId.{ItemId}
+use Rattle.dm_types.specs.declared.item.Attempt.{Attempt}
+use Rattle.dm_types.specs.declared.item.Epoch.{Epoch}
 use Rattle.dm_types.specs.declared.item.Key.{Key}
 use Rattle.dm_types.specs.declared.item.Key.TheVariants.{Strong, Once}
 use Rattle.dm_types.specs.declared.item.Phase.{Phase}
@@ -224,15 +226,34 @@ stopped_reason phase reason = if is_running phase then Some reasons.Crash else r
 abbrev pub stopped_item : Item → Item
 stopped_item item = record item { phase = stopped item.phase; reason = stopped_reason item.phase item.reason }
 
+-- the item of an attempt that begins
+abbrev pub begun_item : Attempt → By → Item → Item
+begun_item attempt by item = record item { phase = phases.Running; reason = None; attempt = attempt; autos = autos_after by item.autos; begun = true }
+
+-- the item with what the first reply told
+abbrev pub described_item : Key → List ℕ → Option ℕ → List ℕ → List ℕ → Item → Item
+described_item key last_address total name modified item =
+    record item { key = Some key; last_address = Some last_address; total = total; name = Some name; modified = Some modified }
+
+-- the item whose content is brought anew
+abbrev pub restarted_item : Epoch → Item → Item
+restarted_item epoch item =
+    record item { epoch = epoch; begun = false; key = None; last_address = None; total = None; name = None; modified = None; slices = no_bytes }
+
+-- the count of attempts by itself can rise
+abbrev pub FitsAutos : Entry → Item → Type 0
+FitsAutos (entries.Began id attempt by at) item = autos_after by item.autos < 2 ^ 32
+FitsAutos _ item = Unit {0}
+
 -- the last column: the effect on the item
 abbrev pub changed : Entry → Item → Item
-changed (entries.Began id attempt by at) item = record item { phase = phases.Running; reason = None; attempt = attempt; autos = autos_after by item.autos; begun = true }
-changed (entries.Described id key last_address total name modified) item = record item { key = Some key; last_address = Some last_address; total = total; name = Some name; modified = Some modified }
+changed (entries.Began id attempt by at) item = begun_item attempt by item
+changed (entries.Described id key last_address total name modified) item = described_item key last_address total name modified item
 changed (entries.Progress id slices) item = record item { slices = slices }
 changed (entries.Broke id reason) item = record item { phase = phases.Interrupted reason; reason = Some reason }
 changed (entries.Paused id) item = record item { phase = phases.Paused }
 changed (entries.Cancelled id) item = record item { phase = phases.Cancelled; reason = Some reasons.UserCanceled }
-changed (entries.Restarted id epoch because) item = record item { epoch = epoch; begun = false; key = None; last_address = None; total = None; name = None; modified = None; slices = no_bytes }
+changed (entries.Restarted id epoch because) item = restarted_item epoch item
 changed (entries.Finishing id total) item = record item { phase = phases.Finishing; total = Some total }
 changed (entries.Done id digest at) item = record item { phase = phases.Complete; have = Some digest; at_ms = at }
 changed (entries.Asked id) item = record item { phase = phases.Waiting }
