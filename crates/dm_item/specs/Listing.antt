@@ -194,29 +194,85 @@ pub record Takes (e : Entry) (old new : Listing) : Type 0 where
   pub meets : Meets old e
   pub value : new ≡ applied e old
 
--- the item that the entry names
-abbrev pub item_named : Listing → Entry → Option Item
-item_named v e = option_and_then (λ id. item_in id.0 v.items) (name_of e)
-
-abbrev pub is_added : Entry → Bool
-is_added (entries.Added id word address wish digest at) = true
-is_added _ = false
-
 abbrev pub is_broke : Entry → Bool
 is_broke (entries.Broke id reason) = true
 is_broke _ = false
 
--- the further condition fails
-abbrev pub Fails : Listing → Entry → Type 0
-Fails v (entries.Added id word address wish digest at) = HasRoom v × ¬ Meets v (entries.Added id word address wish digest at)
-Fails v (entries.Reopened next at) = ¬ Meets v (entries.Reopened next at)
-Fails v (entries.Restored item) = ¬ Meets v (entries.Restored item)
-Fails v e = IsSomeAnd (item_named v e) (λ item. IsTrue (allows e item.phase) × ¬ Further e v.items item)
+-- the item that the entry names
+abbrev pub item_named : Entry → List Item → Option Item
+item_named e items = option_and_then (λ id. item_in id.0 items) (name_of e)
+
+-- why the row of an item doesn't take an entry: its phase, and then the further condition
+abbrev pub RowDeclines : Entry → List Item → Item → ApplyFault → Type 0
+RowDeclines e items item (WrongPhase phase) = (item.phase ≡ phase) × (allows e item.phase ≡ false)
+RowDeclines e items item (Unlawful kind) = (kind ≡ kind_of e) × (IsTrue (allows e item.phase) × ¬ Further e items item)
+RowDeclines e items item (NoItem id) = ⊥
+RowDeclines e items item (Full count) = ⊥
+RowDeclines e items item NoMemory = ⊥
+
+-- why an entry that names an item isn't taken; a Broke never wants memory
+abbrev pub NamedDeclines : Entry → List Item → ApplyFault → Type 0
+NamedDeclines e items (NoItem id) = (name_of e ≡ Some id) × (item_in id.0 items ≡ None)
+NamedDeclines e items (WrongPhase phase) = IsSomeAnd (item_named e items) (λ item. RowDeclines e items item (WrongPhase phase))
+NamedDeclines e items (Unlawful kind) = IsSomeAnd (item_named e items) (λ item. RowDeclines e items item (Unlawful kind))
+NamedDeclines e items (Full count) = ⊥
+NamedDeclines e items NoMemory = is_broke e ≡ false
+
+-- why an Added isn't taken: no room, and then its further condition
+abbrev pub AddedDeclines : Listing → ItemId → List ℕ → ApplyFault → Type 0
+AddedDeclines v id word (Full count) = (count ≡ length v.items) × ((v.limit ≤ length v.items) ⊎ (v.next ≡ 4294967295))
+AddedDeclines v id word (Unlawful kind) = (kind ≡ 1) × (HasRoom v × ¬ ((id.0 ≡ v.next) × IsFreeWord word v.items))
+AddedDeclines v id word NoMemory = Unit {0}
+AddedDeclines v id word (NoItem other) = ⊥
+AddedDeclines v id word (WrongPhase phase) = ⊥
+
+-- why a Reopened isn't taken; it wants no memory
+abbrev pub ReopenedDeclines : Listing → ℕ → ApplyFault → Type 0
+ReopenedDeclines v next (Unlawful kind) = (kind ≡ 13) × ¬ ((next ≡ v.next) ⊎ (IsTrue v.is_first × (1 ≤ next)))
+ReopenedDeclines v next (NoItem id) = ⊥
+ReopenedDeclines v next (WrongPhase phase) = ⊥
+ReopenedDeclines v next (Full count) = ⊥
+ReopenedDeclines v next NoMemory = ⊥
+
+-- why a Restored isn't taken
+abbrev pub RestoredDeclines : Listing → Item → ApplyFault → Type 0
+RestoredDeclines v item (Unlawful kind) = (kind ≡ 14) × ¬ IsRestorable v.is_early v.next v.items item
+RestoredDeclines v item NoMemory = Unit {0}
+RestoredDeclines v item (NoItem id) = ⊥
+RestoredDeclines v item (WrongPhase phase) = ⊥
+RestoredDeclines v item (Full count) = ⊥
 
 -- why the list doesn't take an entry
 abbrev pub Declines : Listing → Entry → ApplyFault → Type 0
-Declines v e (NoItem id) = (name_of e ≡ Some id) × (item_in id.0 v.items ≡ None)
-Declines v e (WrongPhase phase) = IsSomeAnd (item_named v e) (λ item. (item.phase ≡ phase) × (allows e phase ≡ false))
-Declines v e (Full count) = IsTrue (is_added e) × (count ≡ length v.items) × ((v.limit ≤ length v.items) ⊎ (v.next ≡ 4294967295))
-Declines v e (Unlawful kind) = (kind ≡ kind_of e) × Fails v e
-Declines v e NoMemory = is_broke e ≡ false
+Declines v (entries.Added id word address wish digest at) fault = AddedDeclines v id word fault
+Declines v (entries.Reopened next at) fault = ReopenedDeclines v next fault
+Declines v (entries.Restored item) fault = RestoredDeclines v item fault
+Declines v e fault = NamedDeclines e v.items fault
+
+-- an entry that names an item is taken
+pub record NamedTakes (e : Entry) (old new : List Item) : Type 0 where
+  pub row : RowAt e old (name_of e)
+  pub value : new ≡ items_after e (name_of e) old
+
+-- The ids rise from a number on, and are below the next id.
+abbrev pub IsNumbered : ℕ → List Item → ℕ → Type 0
+IsNumbered low [] next = low ≤ next
+IsNumbered low (item ∷ rest) next = (low ≤ item.id.0) × IsNumbered (item.id.0 + 1) rest next
+
+-- what every list keeps
+pub record IsKept (v : Listing) : Type 0 where
+  pub numbered : IsNumbered 1 v.items v.next
+  pub fresh : IsTrue v.is_first → v.items ≡ []
+
+-- a list that has taken no entry
+abbrev pub empty_list : ℕ → Listing
+empty_list limit = record { limit = limit; next = 1; is_first = true; is_early = true; items = [] }
+
+-- the first item with the word has this id
+abbrev pub IsWordOf : List ℕ → List Item → ItemId → Type 0
+IsWordOf word [] id = ⊥
+IsWordOf word (item ∷ rest) id = ((item.word ≡ word) × (item.id ≡ id)) ⊎ ((item.word ≢ word) × IsWordOf word rest id)
+
+-- a word that isn't empty is the item's
+abbrev pub HasWordOf : List ℕ → List Item → ItemId → Type 0
+HasWordOf word items id = (word ≢ []) × IsWordOf word items id

@@ -5,8 +5,15 @@ mod change;
 mod conditions;
 mod copies;
 mod fault;
+mod items;
 mod names;
 mod restored;
 mod rows;
+mod take;
 
+pub use copies::copy_item;
 pub use fault::ApplyFault;
+pub use items::Items;
+pub use names::same_name;
+pub use restored::is_sound;
+pub use rows::{facts_of, mode_of_item};
