@@ -1,4 +1,4 @@
-ghost use Rattle.std.specs.Prelude.{◌≡◌, ◌+◌, ◌≤◌, ◌⊎◌, ◌++◌, ◌∷◌, [], cond, false, IsTrue, IsSome, IfSome, IfNone, IfOk, IfErr, OnOk, OnErr, length, map, option_map};
+ghost use Rattle.std.specs.Prelude.{◌≡◌, ◌↔◌, ◌+◌, ◌≤◌, ◌⊎◌, ◌++◌, ◌∷◌, [], cond, false, IsTrue, IsSome, IfSome, IfNone, IfOk, IfErr, OnOk, OnErr, length, map, option_map};
 ghost use Rattle.std.specs.Option.{option_copied};
 ghost use Rattle.dm_item.specs.Listing.{HasNoWord, IsWordOf};
 
@@ -199,10 +199,10 @@ impl Items {
         ensures err { IfErr result (ReopenedDeclines self.old next) }
         ensures same { OnErr result (self.new ≡ self.old) }
     {
-        if next != self.next && (!self.first || next == 0) {
+        if !may_reopen(self.first, self.next, next) {
             return Err(ApplyFault::Unlawful(13));
         }
-        self.next = if self.first { next } else { self.next };
+        self.next = next_after(self.first, self.next, next);
         stop_every(&mut self.items);
         self.first = false;
         Ok(())
@@ -268,4 +268,19 @@ fn find_word(word: &[u8], items: &[Item]) -> Option<ItemId>
             }
         }
     }
+}
+
+/// Whether a Reopened may tell this next id: the one that is next, or any from 1 on where it is the
+/// first entry.
+fn may_reopen(first: bool, current: u32, next: u32) -> bool
+    ensures { IsTrue result ↔ ((next ≡ current) ⊎ (IsTrue first × (1 ≤ next))) }
+{
+    next == current || first && next >= 1
+}
+
+/// The next id behind a Reopened.
+fn next_after(first: bool, current: u32, next: u32) -> u32
+    ensures { result ≡ cond first next current }
+{
+    if first { next } else { current }
 }
