@@ -44,14 +44,10 @@ abbrev pub stands : {E : Type 0} → (E → Bool) → List E → Bool
 stands test [] = false
 stands test (e ∷ older) = test e || stands test older
 
-abbrev pub one_if : Bool → ℕ
-one_if true = 1
-one_if false = 0
-
 -- how many entries pass
 abbrev pub count_of : {E : Type 0} → (E → Bool) → List E → ℕ
 count_of test [] = 0
-count_of test (e ∷ older) = count_of test older + one_if (test e)
+count_of test (e ∷ older) = cond (test e) (count_of test older + 1) (count_of test older)
 
 -- the entries that pass
 abbrev pub those : {E : Type 0} → (E → Bool) → List E → List E
