@@ -2,3 +2,4 @@ pub mod Numbers
 pub mod Places
 pub mod Looks
 pub mod Below
+pub mod Steps

@@ -205,7 +205,7 @@ pub data Fresh : List Entry → Type 0 where
   nothing : Fresh []
   opened : {next at : ℕ} {g : List Entry} → Fresh g → Fresh (entries.Reopened next at ∷ g)
 
-newest-fresh : {A : Type 0} (f : Entry → Option A) {g : List Entry} → ((next at : ℕ) → f (entries.Reopened next at) ≡ None) → Fresh g → newest f g ≡ None
+pub newest-fresh : {A : Type 0} (f : Entry → Option A) {g : List Entry} → ((next at : ℕ) → f (entries.Reopened next at) ≡ None) → Fresh g → newest f g ≡ None
 newest-fresh f none nothing = refl
 newest-fresh {A} f none (opened {next} {at} {g} fresh) = ap (λ (x : Option A). first_some x (newest f g)) (none next at) ∙ newest-fresh f none fresh
 
@@ -241,7 +241,7 @@ module _ (g : List Entry) (fresh : Fresh g) where
   no_restart : stands is_restarted g ≡ false
   no_restart = stands-fresh is_restarted (λ n a. refl) fresh
 
-  all_since : since is_restarted g ≡ g
+  pub all_since : since is_restarted g ≡ g
   all_since = since-fresh is_restarted (λ n a. refl) fresh
 
   no_key : newest key_set g ≡ None
@@ -259,7 +259,7 @@ module _ (g : List Entry) (fresh : Fresh g) where
   no_modified : newest modified_set g ≡ None
   no_modified = newest-fresh modified_set (λ n a. refl) fresh
 
-  no_finishing : newest finishing_total g ≡ None
+  pub no_finishing : newest finishing_total g ≡ None
   no_finishing = newest-fresh finishing_total (λ n a. refl) fresh
 
   no_slices : newest slices_set g ≡ None
@@ -271,7 +271,7 @@ module _ (g : List Entry) (fresh : Fresh g) where
   no_at : newest at_set g ≡ None
   no_at = newest-fresh at_set (λ n a. refl) fresh
 
-  no_gone : stands is_gone g ≡ false
+  pub no_gone : stands is_gone g ≡ false
   no_gone = stands-fresh is_gone (λ n a. refl) fresh
 
   -- the first entry of an item is the item
