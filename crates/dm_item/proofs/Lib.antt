@@ -3,3 +3,4 @@ pub mod Places
 pub mod Looks
 pub mod Below
 pub mod Steps
+pub mod Histories

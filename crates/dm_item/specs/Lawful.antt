@@ -1,5 +1,5 @@
 -- Lawful histories, and the items that they leave. A public history is oldest first.
-use Rattle.std.specs.Prelude.{◌≡◌, ℕ, ◌+◌, ◌≤◌, Bool, false, true, ◌==◌, ◌&&◌, List, [], ◌∷◌, ◌++◌, map, reverse, Option}
+use Rattle.std.specs.Prelude.{◌≡◌, ℕ, ◌+◌, ◌≤◌, Bool, false, true, ◌==◌, ◌&&◌, List, [], ◌∷◌, ◌++◌, map, reverse, take, Option}
 use Rattle.dm_types.specs.declared.item.Item.{Item}
 use Rattle.dm_types.specs.declared.entry.Entry.{Entry}
 use Rattle.dm_types.specs.declared.entry.Entry.TheVariants as entries
@@ -43,3 +43,12 @@ pub record IsOf (history : History) (v : Listing) : Type 0 where
 -- a short history of a list: its next id, and its items by rising id
 abbrev pub short_history : Listing → ℕ → History
 short_history v at = entries.Reopened v.next at ∷ map entries.Restored v.items
+
+-- the new list is what a history of the old one leaves with these entries behind it
+abbrev pub KeepsHistory : Listing → Listing → History → Type 0
+KeepsHistory old new more = (history : History) → IsOf history old → IsOf (history ++ more) new
+
+-- some of the entries from the front on were taken
+pub record TookSome (old new : Listing) (more : History) : Type 0 where
+  pub count : ℕ
+  pub keeps : KeepsHistory old new (take count more)

@@ -49,11 +49,13 @@ impl Model for Items {
 impl Items {
     ghost use Rattle.dm_item.specs.Fields.{added_item};
     ghost use Rattle.dm_item.specs.Row.{mode_of_item, name_of, stopped_item};
+    ghost use Rattle.dm_item.specs.Lawful.{IsOf, KeepsHistory, TookSome};
     ghost use Rattle.dm_item.specs.Listing.{AddedDeclines, Declines, HasRoom, HasWordOf, IsFreeWord, IsRestorable, NamedDeclines, ReopenedDeclines, RestoredDeclines, RowAt, Takes, empty_list, item_in, items_after};
 
     /// An empty list that takes on at most `limit` items.
     pub fn new(alloc: Global, limit: u32) -> Result<Items, NoMemory>
-        ensures { IfOk result (λ items. items ≡ empty_list limit) }
+        ensures empty { IfOk result (λ items. items ≡ empty_list limit) }
+        ensures history { IfOk result (IsOf []) }
     {
         Ok(Items {
             limit,
@@ -126,6 +128,22 @@ impl Items {
             Entry::Archived { .. } => self.take_named(entry),
             Entry::Asked { .. } => self.take_named(entry),
         }
+    }
+
+    /// Takes entries one after another. The first that isn't taken ends it; those before it are taken.
+    /// So a list that has taken entries alone, from its making on, is what the definitions in specs/
+    /// say of their history, and that history is lawful.
+    pub fn apply_all(&mut self, entries: &[Entry]) -> Result<(), ApplyFault>
+        ensures ok { OnOk result (KeepsHistory self.old self.new entries.now) }
+        ensures err { OnErr result (TookSome self.old self.new entries.now) }
+    {
+        for entry in entries {
+            match self.apply(entry) {
+                Ok(()) => {}
+                Err(fault) => return Err(fault),
+            }
+        }
+        Ok(())
     }
 
     fn take_named(&mut self, entry: &Entry) -> Result<(), ApplyFault>

@@ -1,7 +1,7 @@
 -- Which parts of a content are asked for next: the holes of a normal cover, cut into parts.
 use Rattle.std.specs.Prelude.{◌≡◌, ℕ, zero, suc, ◌+◌, ◌-◌, ◌/◌, ◌<◌, ◌≤◌, ◌==◌, nat_lt, min, max, if◌then◌else◌, List, [], ◌∷◌, ◌++◌, length, map, drop, false, Some, ◌⊎◌}
 use Rattle.dm_types.specs.declared.slices.Slice.{Slice}
-use Rattle.dm_slice.specs.Words.{end_of, IsApart}
+use Rattle.dm_slice.specs.Words.{end_of, HasByte, IsApart}
 use Rattle.dm_slice.specs.Cover.{normal_of}
 use Rattle.dm_slice.specs.declared.plan.Part.{Part}
 
@@ -80,6 +80,35 @@ opened_of cover total n least = opened cover (groups_of cover total n least)
 pub record IsPlanned (total n least : ℕ) (old new : List Slice) (plan : List Part) : Type 0 where
   pub parts : plan ≡ plan_of (normal_of (Some total) old) total n least
   pub slices : new ≡ opened_of (normal_of (Some total) old) total n least
+
+-- the place lies in one of the runs
+abbrev pub InRuns : List Run → ℕ → Type 0
+InRuns [] place = ⊥
+InRuns (r ∷ rest) place = ((r.from ≤ place) × (place < r.to)) ⊎ InRuns rest place
+
+-- the place lies in one of the parts
+abbrev pub InParts : List Part → ℕ → Type 0
+InParts [] place = ⊥
+InParts (part ∷ rest) place = ((part.first ≤ place) × (place < part.end)) ⊎ InParts rest place
+
+-- each part has places, and begins at or behind the end of the one before; the first at or behind this place, and none ends above the bound
+abbrev pub AreDisjoint : ℕ → ℕ → List Part → Type 0
+AreDisjoint from bound [] = Unit {0}
+AreDisjoint from bound (part ∷ rest) = (from ≤ part.first) × (part.first < part.end) × (part.end ≤ bound) × AreDisjoint part.end bound rest
+
+-- no place that isn't there lies between two places
+abbrev pub NoByteBetween : List Slice → ℕ → ℕ → Type 0
+NoByteBetween slices low high = (place : ℕ) → low ≤ place → place ≤ high → ¬ HasByte slices place
+
+-- What a plan promises of a cover.
+pub record FillsHoles (total : ℕ) (cover : List Slice) (parts : List Part) : Type 0 where
+  -- the parts are disjoint, rise, and lie below the total
+  pub disjoint : AreDisjoint 0 total parts
+  -- they hold no byte that is there
+  pub missing : (place : ℕ) → InParts parts place → ¬ HasByte cover place
+  -- the hole of each of their places is planned whole, upwards and downwards
+  pub upward : (place further : ℕ) → InParts parts place → place ≤ further → further < total → NoByteBetween cover place further → InParts parts further
+  pub downward : (place further : ℕ) → InParts parts place → further ≤ place → NoByteBetween cover further place → InParts parts further
 
 -- a normal list from some slice on
 abbrev pub IsChain : List Slice → Type 0
