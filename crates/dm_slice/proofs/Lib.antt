@@ -2,3 +2,4 @@ pub mod Covers
 pub mod Joins
 pub mod Plans
 pub mod Opened
+pub mod Filled

@@ -15,7 +15,7 @@ pub chain-normal : (total : Option ℕ) (slices : List Slice) → IsNormal total
 chain-normal total [] normal = absurd normal
 chain-normal total (slice ∷ rest) normal = normal.1
 
-chain-rest : (slice : Slice) (rest : List Slice) → IsChain (slice ∷ rest) → IsChain rest
+pub chain-rest : (slice : Slice) (rest : List Slice) → IsChain (slice ∷ rest) → IsChain rest
 chain-rest slice [] chain = tt
 chain-rest slice (next ∷ rest) chain = chain.2
 
@@ -66,14 +66,14 @@ stop-low : (total end : ℕ) (rest : List Slice) → total ≤ 2 ^ 40 → IsRisi
 stop-low total end [] most rising = most
 stop-low total end (next ∷ rest) most rising = let ends = rising.1 in omega arith
 
-share-some : (least left room behind size : ℕ) → 0 < share least left room behind size
+pub share-some : (least left room behind size : ℕ) → 0 < share least left room behind size
 share-some least left room behind size = omega arith
 
 share-fits : (least left room behind size : ℕ) → share least left room behind size ≤ room + 1
 share-fits least left room behind size = omega arith
 
 -- whether a slice has a hole behind it that gets parts
-data Behind (total least left room : ℕ) (slice : Slice) (rest : List Slice) : Type 0 where
+pub data Behind (total least left room : ℕ) (slice : Slice) (rest : List Slice) : Type 0 where
   alone : groups least left room (holes total (slice ∷ rest)) ≡ [] → Behind total least left room slice rest
   cut : end_of slice < stop_of total rest → 0 < left → Behind total least left room slice rest
 
@@ -81,7 +81,7 @@ behind-last : (total least left room : ℕ) (slice : Slice) (rest : List Slice) 
 behind-last total least left room slice [] chain none = alone (ap (groups least left room) (holes-none total slice [] none))
 behind-last total least left room slice (next ∷ rest) chain none = let far = chain.0 in absurd (omega arith)
 
-behind : (total least left room : ℕ) (slice : Slice) (rest : List Slice) → IsChain (slice ∷ rest) → Behind total least left room slice rest
+pub behind : (total least left room : ℕ) (slice : Slice) (rest : List Slice) → IsChain (slice ∷ rest) → Behind total least left room slice rest
 behind total least left room slice rest chain =
     elim (cases_lt (end_of slice) (stop_of total rest)) [
       | inl there ↦ elim (cases_lt 0 left) [
@@ -91,13 +91,13 @@ behind total least left room slice rest chain =
       | inr none ↦ behind-last total least left room slice rest chain none
     ]
 
-abbrev share_of : ℕ → ℕ → ℕ → ℕ → Slice → List Slice → ℕ
+abbrev pub share_of : ℕ → ℕ → ℕ → ℕ → Slice → List Slice → ℕ
 share_of total least left room slice rest = share least left room (length (holes total rest)) (stop_of total rest - end_of slice)
 
-abbrev cut_of : ℕ → ℕ → ℕ → ℕ → Slice → List Slice → List Run
+abbrev pub cut_of : ℕ → ℕ → ℕ → ℕ → Slice → List Slice → List Run
 cut_of total least left room slice rest = cut_in (share_of total least left room slice rest) (run (end_of slice) (stop_of total rest))
 
-abbrev groups_behind : ℕ → ℕ → ℕ → ℕ → Slice → List Slice → List (List Run)
+abbrev pub groups_behind : ℕ → ℕ → ℕ → ℕ → Slice → List Slice → List (List Run)
 groups_behind total least left room slice rest =
     groups least (left - share_of total least left room slice rest) (room + 1 - share_of total least left room slice rest) (holes total rest)
 

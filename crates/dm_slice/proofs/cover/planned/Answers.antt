@@ -1,7 +1,9 @@
-use Rattle.std.proofs.Common.{◌-◌, length, Some, subst, sym, ap, ◌∙◌, arith}
+use Rattle.std.proofs.Common.{◌-◌, length, Some, subst, sym, ap, ◌∙◌, rules, arith}
+use Rattle.dm_slice.proofs.Filled.{plan_of-fills}
 use Rattle.dm_types.specs.declared.slices.Slice.{Slice}
 use Rattle.dm_slice.specs.Words.{IsWithin}
-use Rattle.dm_slice.specs.Plan.{IsChain, opened, groups, holes}
+use Rattle.std.proofs.lemmas.Grind.{common_steps}
+use Rattle.dm_slice.specs.Plan.{FillsHoles, IsPlanned, IsChain, opened, groups, holes}
 use Rattle.dm_slice.proofs.Opened.{chain-normal_of, within-normal_of, cover-planned, length-planned}
 use Rattle.dm_slice.proofs.cover.planned.Goals as goal
 use Rattle.dm_slice.proofs.cover.planned.Goals.{In_ok-walk}
@@ -25,3 +27,9 @@ returns-clause-most c =
     (c.items.ensures.items ∙ c.in_ok-normal.ensures) c.in_ok-opened.ensures.items c.in_ok-walk.ensures in
     let same = ap length c.items.ensures.items in
     omega (arith, c.count.ensures.count)
+
+pub returns-clause-fills : goal.returns-clause-fills
+returns-clause-fills c =
+    let planned : IsPlanned c.args.rule.total c.args.n c.args.rule.least c.args.slices.now c.walk.new.opened.items c.walk.new.parts.items = first_of (search rules, grind (arith, common_steps)) in
+    subst (FillsHoles c.args.rule.total c.args.slices.now) (sym planned.parts)
+    (plan_of-fills c.args.rule.total c.args.n c.args.rule.least c.args.slices.now c.requires.cover c.requires.within (omega arith))
