@@ -60,6 +60,7 @@ impl Cover {
         total: Option<u64>,
     ) -> Result<Option<Cover>, NoMemory>
         ensures some { IfOk result (λ found. IfSome found (λ cover. cover ≡ slices.now)) }
+        ensures within { IfOk result (λ found. IfSome found (IsCoverWithin total)) }
         ensures none { IfOk result
             (λ found. (found ≡ None) ↔ ¬ IsCoverWithin total slices.now) }
     {

@@ -1,3 +1,5 @@
+ghost use Rattle.dm_slice.specs.Words.{IsWithin};
+
 use crate::*;
 use dm_types::{Slice, Slices};
 use std::alloc::Global;
@@ -13,7 +15,9 @@ fn slice(first: u64, got: u64, finished: bool) -> Slice {
 }
 
 /// The cover of these slices, which must be one within the total.
-fn cover(rt: &impl Abort, alloc: Global, runs: &[(u64, u64)], total: u64) -> Cover {
+fn cover(rt: &impl Abort, alloc: Global, runs: &[(u64, u64)], total: u64) -> Cover
+    ensures { IsWithin total result }
+{
     let mut slices = Slices::new(alloc);
     for (first, got) in runs {
         if slices.count() < 64 {
