@@ -1,8 +1,8 @@
 -- Lemmas on covers: their ends, and what growing changes.
-use Rattle.std.proofs.Common.{◌≡◌, ℕ, zero, suc, ◌+◌, ◌*◌, ◌^◌, ◌<◌, ◌≤◌, ◌⊎◌, ◌↔◌, List, [], ◌∷◌, length, get_or, set, Option, Some, None, inl, inr, unwrap_or, refl, ap, sym, subst, ◌∙◌, arith}
+use Rattle.std.proofs.Common.{◌≡◌, ℕ, zero, suc, ◌+◌, ◌^◌, ◌<◌, ◌≤◌, ◌⊎◌, ◌↔◌, List, [], ◌∷◌, length, get_or, set, Option, Some, None, inl, inr, unwrap_or, refl, ap, sym, subst, ◌∙◌, arith}
 use Rattle.std.proofs.lemmas.Bool.{cases_lt}
 use Rattle.dm_types.specs.declared.slices.Slice.{Slice}
-use Rattle.dm_slice.specs.Words.{end_of, HasByte, Holds, IsApart, IsFull, IsMarked, IsNormal, IsWithin, covered}
+use Rattle.dm_slice.specs.Words.{end_of, HasByte, IsApart, IsNormal, IsWithin, covered}
 use Rattle.dm_slice.specs.Cover.{IsRising, IsCover, IsAdded, IsCoverWithin, grown, limit_of, limit_at, next_of}
 
 -- the bytes of rising slices lie below 2^40

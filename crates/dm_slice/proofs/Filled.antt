@@ -1,13 +1,12 @@
 -- What a plan promises: its parts are disjoint, missing, and fill the holes that they touch.
-use Rattle.std.proofs.Common.{◌≡◌, ℕ, zero, suc, ◌+◌, ◌-◌, ◌*◌, ◌/◌, ◌%◌, ◌^◌, ◌<◌, ◌≤◌, ◌⊎◌, List, [], ◌∷◌, ◌++◌, length, Option, Some, inl, inr, refl, ap, sym, subst, ◌∙◌, arith}
+use Rattle.std.proofs.Common.{◌≡◌, ℕ, zero, suc, ◌+◌, ◌-◌, ◌*◌, ◌/◌, ◌%◌, ◌<◌, ◌≤◌, ◌⊎◌, List, [], ◌∷◌, ◌++◌, length, Option, Some, inl, inr, refl, ap, ◌∙◌, arith}
 use Rattle.std.proofs.lemmas.Bool.{cases_lt}
 use Rattle.dm_types.specs.declared.slices.Slice.{Slice}
 use Rattle.dm_slice.specs.Words.{end_of, HasByte, IsApart, IsNormal, IsWithin}
-use Rattle.dm_slice.specs.Cover.{IsCover, IsNormalOf, normal_of}
-use Rattle.dm_slice.specs.Plan.{AreDisjoint, FillsHoles, InParts, InRuns, IsChain, NoByteBetween, Run, all_of, cut_in, cuts, groups, holes, numbered, plan_of, run, share, stop_of}
-use Rattle.dm_slice.specs.declared.plan.Part.{Part}
+use Rattle.dm_slice.specs.Cover.{IsCover, normal_of}
+use Rattle.dm_slice.specs.Plan.{AreDisjoint, FillsHoles, InParts, InRuns, IsChain, NoByteBetween, Run, all_of, cuts, groups, holes, numbered, plan_of, share, stop_of}
 use Rattle.dm_slice.proofs.Joins.{normal_of-meaning}
-use Rattle.dm_slice.proofs.Opened.{Behind, alone, cut, behind, chain-rest, cut_of, groups-cut, groups_behind, share-some, share_of, within-normal_of}
+use Rattle.dm_slice.proofs.Opened.{alone, cut, behind, chain-rest, cut_of, groups-cut, groups_behind, share-some, share_of, within-normal_of}
 
 -- runs that rise, apart from one another
 abbrev Rise : ℕ → ℕ → List Run → Type 0

@@ -1,10 +1,10 @@
 -- The normal list of a cover: it is normal, and has the same bytes.
-use Rattle.std.proofs.Common.{◌≡◌, ℕ, zero, suc, ◌+◌, ◌^◌, ◌<◌, ◌≤◌, ◌⊎◌, ◌↔◌, List, [], ◌∷◌, map, length, Option, Some, None, inl, inr, refl, ap, sym, subst, ◌∙◌, arith, Result, Ok, Err, IfOk}
-use Rattle.std.proofs.lemmas.Bool.{cases_lt, cases_eq}
+use Rattle.std.proofs.Common.{◌≡◌, ℕ, ◌+◌, ◌<◌, ◌≤◌, List, [], ◌∷◌, map, Option, Some, None, inl, inr, refl, sym, subst, arith, Result, Ok, Err, IfOk}
+use Rattle.std.proofs.lemmas.Bool.{cases_lt}
 use Rattle.std.proofs.lemmas.Bool.Decides.{nat_tests}
 use Rattle.dm_types.specs.declared.slices.Slice.{Slice}
 use Rattle.dm_slice.specs.Words.{end_of, HasByte, IsApart, IsMarked, IsNormal, is_last}
-use Rattle.dm_slice.specs.Cover.{IsRising, IsCover, IsNormalOf, SamePlaces, joined, marked, normal_of}
+use Rattle.dm_slice.specs.Cover.{IsRising, IsCover, IsNormalOf, joined, marked, normal_of}
 
 -- one step of joining
 abbrev pub with_more : Slice → Slice → Slice

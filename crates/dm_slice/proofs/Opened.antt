@@ -1,13 +1,13 @@
 -- The cover behind a plan: it is a cover, of at most 64 slices.
-use Rattle.std.proofs.Common.{◌≡◌, ℕ, zero, suc, ◌+◌, ◌-◌, ◌*◌, ◌/◌, ◌^◌, ◌<◌, ◌≤◌, ◌⊎◌, List, [], ◌∷◌, ◌++◌, map, length, drop, Option, Some, inl, inr, refl, ap, sym, subst, ◌∙◌, length-append, arith}
+use Rattle.std.proofs.Common.{◌≡◌, ℕ, zero, suc, ◌+◌, ◌-◌, ◌*◌, ◌/◌, ◌^◌, ◌<◌, ◌≤◌, List, [], ◌∷◌, ◌++◌, map, length, drop, Option, Some, inl, inr, refl, ap, sym, subst, ◌∙◌, length-append, arith}
 use Rattle.std.proofs.lemmas.List.{length-map}
 use Rattle.std.proofs.lemmas.Bool.{cases_lt}
 use Rattle.dm_types.specs.declared.slices.Slice.{Slice}
-use Rattle.dm_slice.specs.Words.{end_of, IsApart, IsNormal, IsWithin}
-use Rattle.dm_slice.specs.Cover.{IsRising, IsCover, IsNormalOf, joined, marked, normal_of}
+use Rattle.dm_slice.specs.Words.{end_of, IsNormal, IsWithin}
+use Rattle.dm_slice.specs.Cover.{IsRising, IsCover, joined, marked, normal_of}
 use Rattle.dm_slice.specs.Plan.{Run, run, stop_of, holes, share, cuts, cut_in, groups, empty_at, opened, IsChain, Walked}
 use Rattle.dm_slice.specs.declared.plan.Part.{Part}
-use Rattle.dm_slice.proofs.Joins.{Meets, empty, touch, apart, meets, rising-later, with_more, joined-empty, joined-touch, joined-apart, normal_of-meaning}
+use Rattle.dm_slice.proofs.Joins.{empty, touch, apart, meets, rising-later, with_more, joined-empty, joined-touch, joined-apart, normal_of-meaning}
 use Rattle.dm_slice.proofs.Covers.{cover-normal}
 use Rattle.dm_slice.proofs.Plans.{holes-there, holes-none, groups-some, groups-none, length-cuts}
 

@@ -1,9 +1,9 @@
 -- Lemmas on plans: what a step of the walk adds to both lists.
-use Rattle.std.proofs.Common.{◌≡◌, ℕ, zero, suc, ◌+◌, ◌-◌, ◌*◌, ◌/◌, ◌^◌, ◌<◌, ◌≤◌, ◌≢◌, ◌⊎◌, List, [], ◌∷◌, ◌++◌, map, length, drop, take, get_or, inl, inr, refl, ap, sym, subst, ◌∙◌, append_assoc, length-append, arith, false}
+use Rattle.std.proofs.Common.{◌≡◌, ℕ, zero, suc, ◌+◌, ◌-◌, ◌*◌, ◌<◌, ◌≤◌, ◌≢◌, List, [], ◌∷◌, ◌++◌, map, length, drop, take, get_or, inl, inr, refl, ap, sym, subst, ◌∙◌, append_assoc, length-append, arith, false}
 use Rattle.std.proofs.lemmas.Bool.Decides.{nat_tests}
 use Rattle.std.proofs.lemmas.List.{take_rest}
 use Rattle.dm_types.specs.declared.slices.Slice.{Slice}
-use Rattle.dm_slice.specs.Words.{end_of, IsApart, IsWithin}
+use Rattle.dm_slice.specs.Words.{end_of}
 use Rattle.dm_slice.specs.Plan.{Run, run, stop_of, holes, share, cuts, cut_in, groups, all_of, numbered, empty_at, opened, IsChain, Walked, Cut, FilledHole, FilledNone, Filled}
 use Rattle.dm_slice.specs.declared.plan.Part.{Part}
 

@@ -1,5 +1,5 @@
 -- Covers: the received slices of one content, in order.
-use Rattle.std.specs.Prelude.{◌≡◌, ℕ, zero, suc, ◌+◌, ◌^◌, ◌<◌, ◌≤◌, ◌==◌, ◌⊎◌, ◌↔◌, if◌then◌else◌, List, [], ◌∷◌, Option, Some, None, length, map, false}
+use Rattle.std.specs.Prelude.{◌≡◌, ℕ, zero, suc, ◌+◌, ◌^◌, ◌<◌, ◌≤◌, ◌==◌, ◌↔◌, if◌then◌else◌, List, [], ◌∷◌, Option, Some, None, map}
 use Rattle.dm_types.specs.declared.slices.Slice.{Slice}
 use Rattle.dm_slice.specs.Words.{end_of, HasByte, IsNormal, IsWithin, is_last}
 

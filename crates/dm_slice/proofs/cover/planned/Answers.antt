@@ -1,9 +1,8 @@
 use Rattle.std.proofs.Common.{◌-◌, length, Some, subst, sym, ap, ◌∙◌, rules, arith}
 use Rattle.dm_slice.proofs.Filled.{plan_of-fills}
-use Rattle.dm_types.specs.declared.slices.Slice.{Slice}
 use Rattle.dm_slice.specs.Words.{IsWithin}
 use Rattle.std.proofs.lemmas.Grind.{common_steps}
-use Rattle.dm_slice.specs.Plan.{FillsHoles, IsPlanned, IsChain, opened, groups, holes}
+use Rattle.dm_slice.specs.Plan.{FillsHoles, IsPlanned, IsChain}
 use Rattle.dm_slice.proofs.Opened.{chain-normal_of, within-normal_of, cover-planned, length-planned}
 use Rattle.dm_slice.proofs.cover.planned.Goals as goal
 use Rattle.dm_slice.proofs.cover.planned.Goals.{In_ok-walk}

@@ -1,4 +1,4 @@
-use Rattle.std.proofs.Common.{◌*◌, ◌+◌, ◌-◌, ◌≡◌, ◌≢◌, ◌≤◌, ◌<◌, suc, zero, ℕ, length, refl, ap, ◌∙◌, rules, arith, length-append}
+use Rattle.std.proofs.Common.{length, ap, ◌∙◌, rules, arith, length-append}
 use Rattle.std.proofs.lemmas.Result.{on_ok_weaker}
 use Rattle.dm_slice.proofs.Plans.{cut_more, rest_small}
 use Rattle.dm_slice.proofs.plan.+cut.Goals as goal

@@ -1,4 +1,4 @@
-use Rattle.std.proofs.Common.{◌≡◌, length, rules, arith}
+use Rattle.std.proofs.Common.{◌≡◌, rules}
 use Rattle.dm_slice.specs.Cover.{IsCoverWithin}
 use Rattle.dm_slice.proofs.Covers.{cover-within}
 use Rattle.dm_slice.proofs.cover.Cover.from_slices.Goals as goal

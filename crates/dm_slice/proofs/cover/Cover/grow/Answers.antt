@@ -1,6 +1,4 @@
-use Rattle.std.proofs.Common.{◌<◌, ◌≤◌, ◌+◌, length, set, unwrap_or, arith}
-use Rattle.dm_types.specs.declared.slices.Slice.{Slice}
-use Rattle.dm_slice.specs.Cover.{next_of, limit_at}
+use Rattle.std.proofs.Common.{◌+◌, set, arith}
 use Rattle.dm_slice.proofs.Covers.{GrewAt, grew_at, grown-small, places-grown}
 use Rattle.dm_slice.proofs.cover.Cover.grow.Goals as goal
 use Rattle.dm_slice.proofs.cover.Cover.grow.Goals.{After-self-1}
