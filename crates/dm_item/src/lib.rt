@@ -17,3 +17,6 @@ pub use items::Items;
 pub use names::same_name;
 pub use restored::is_sound;
 pub use rows::{facts_of, mode_of_item};
+
+#[cfg(test)]
+mod tests;

@@ -7,4 +7,4 @@ use Rattle.dm_item.proofs.items.Items.new.Goals as goal
 pub returns-clause-history : goal.returns-clause-history
 returns-clause-history c =
     subst (λ (items : List Item). IsOf [] (record { limit = c.args.limit; next = 1; is_first = true; is_early = true; items = items }))
-        (sym c.in_ok-with_capacity.ensures.items) (empty_is c.args.limit)
+    (sym c.in_ok-with_capacity.ensures.items) (empty_is c.args.limit)
