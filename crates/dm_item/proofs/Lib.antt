@@ -1,0 +1,6 @@
+pub mod Numbers
+pub mod Places
+pub mod Looks
+pub mod Below
+pub mod Steps
+pub mod Histories

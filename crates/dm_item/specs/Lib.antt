@@ -1,0 +1,5 @@
+pub mod History
+pub mod Fields
+pub mod Row
+pub mod Listing
+pub mod Lawful

@@ -1,0 +1,304 @@
+ghost use Rattle.std.specs.Prelude.{◌≡◌, ◌↔◌, ◌+◌, ◌≤◌, ◌⊎◌, ◌++◌, ◌∷◌, [], cond, false, IsTrue, IsSome, IfSome, IfNone, IfOk, IfErr, OnOk, OnErr, length, map, option_map};
+ghost use Rattle.std.specs.Option.{option_copied};
+ghost use Rattle.dm_item.specs.Listing.{HasNoWord, IsWordOf};
+
+use crate::ApplyFault;
+use crate::change::make_item;
+use crate::copies::copy_item;
+use crate::names::is_free_word;
+use crate::restored::is_restorable;
+use crate::rows::mode_of_item;
+use crate::take::{change_named, push_item, stop_every};
+use dm_types::{Entry, Item, ItemId, Mode, NoMemory, Text};
+use std::alloc::Global;
+use std::marker::Model;
+
+/// The items, by rising id, and what of the history the next entry's row speaks of.
+#[derive(Drop)]
+pub struct Items {
+    limit: u32,
+    next: u32,
+    first: bool,
+    early: bool,
+    items: Vec<Item>,
+    alloc: Global,
+}
+
+impl Model for Items {
+    ghost use Rattle.dm_item.specs.Listing.{Listing, IsKept};
+
+    ghost Value = { Listing };
+
+    ghost view = { λ s. record {
+      limit = s.limit;
+      next = s.next;
+      is_first = s.first;
+      is_early = s.early;
+      items = s.items.items;
+    } };
+
+    ghost invariant = { λ s. IsKept (record {
+      limit = s.limit;
+      next = s.next;
+      is_first = s.first;
+      is_early = s.early;
+      items = s.items.items;
+    }) };
+}
+
+impl Items {
+    ghost use Rattle.dm_item.specs.Fields.{added_item};
+    ghost use Rattle.dm_item.specs.Row.{mode_of_item, name_of, stopped_item};
+    ghost use Rattle.dm_item.specs.Lawful.{IsOf, KeepsHistory, TookSome};
+    ghost use Rattle.dm_item.specs.Listing.{AddedDeclines, Declines, HasRoom, HasWordOf, IsFreeWord, IsRestorable, NamedDeclines, ReopenedDeclines, RestoredDeclines, RowAt, Takes, empty_list, item_in, items_after};
+
+    /// An empty list that takes on at most `limit` items.
+    pub fn new(alloc: Global, limit: u32) -> Result<Items, NoMemory>
+        ensures empty { IfOk result (λ items. items ≡ empty_list limit) }
+        ensures history { IfOk result (IsOf []) }
+    {
+        Ok(Items {
+            limit,
+            next: 1,
+            first: true,
+            early: true,
+            items: Vec::with_capacity(alloc, 16)?,
+            alloc,
+        })
+    }
+
+    /// The item with an id, where there is one.
+    pub fn get(&self, id: ItemId) -> Option<&Item>
+        ensures { option_copied result ≡ item_in id.0 self.now.items }
+    {
+        self.items.iter().find(|item| item.id.0 == id.0)
+    }
+
+    /// All items, by rising id.
+    pub fn items(&self) -> &[Item]
+        ensures { result.now ≡ self.now.items }
+    {
+        &self.items
+    }
+
+    /// The id that the next item gets.
+    pub fn next(&self) -> u32
+        ensures { result ≡ self.now.next }
+    {
+        self.next
+    }
+
+    /// How many items there are.
+    pub fn count(&self) -> u32
+        ensures { result ≡ length self.now.items }
+    {
+        // The ids are different and below this one, so there are fewer items.
+        let _below = self.next;
+        self.items.len() as u32
+    }
+
+    /// Takes an entry where it meets its row in the list, and does what it says. A refusal changes
+    /// nothing, and a `Broke` never wants memory.
+    pub fn apply(&mut self, entry: &Entry) -> Result<(), ApplyFault>
+        ensures ok { OnOk result (Takes entry.now self.old self.new) }
+        ensures err { IfErr result (Declines self.old entry.now) }
+        ensures same { OnErr result (self.new ≡ self.old) }
+    {
+        match entry {
+            Entry::Added {
+                id,
+                word,
+                address,
+                wish,
+                digest,
+                at,
+            } => self.add(*id, word, address, wish, *digest, *at),
+            Entry::Reopened { next, .. } => self.reopen(*next),
+            Entry::Restored { item } => self.restore(item),
+            Entry::Began { .. } => self.take_named(entry),
+            Entry::Described { .. } => self.take_named(entry),
+            Entry::Progress { .. } => self.take_named(entry),
+            Entry::Broke { .. } => self.take_named(entry),
+            Entry::Paused { .. } => self.take_named(entry),
+            Entry::Cancelled { .. } => self.take_named(entry),
+            Entry::Restarted { .. } => self.take_named(entry),
+            Entry::Finishing { .. } => self.take_named(entry),
+            Entry::Done { .. } => self.take_named(entry),
+            Entry::Removed { .. } => self.take_named(entry),
+            Entry::Archived { .. } => self.take_named(entry),
+            Entry::Asked { .. } => self.take_named(entry),
+        }
+    }
+
+    /// Takes entries one after another. The first that isn't taken ends it; those before it are taken.
+    /// So a list that has taken entries alone, from its making on, is what the definitions in specs/
+    /// say of their history, and that history is lawful.
+    pub fn apply_all(&mut self, entries: &[Entry]) -> Result<(), ApplyFault>
+        ensures ok { OnOk result (KeepsHistory self.old self.new entries.now) }
+        ensures err { OnErr result (TookSome self.old self.new entries.now) }
+    {
+        for entry in entries {
+            match self.apply(entry) {
+                Ok(()) => {}
+                Err(fault) => return Err(fault),
+            }
+        }
+        Ok(())
+    }
+
+    fn take_named(&mut self, entry: &Entry) -> Result<(), ApplyFault>
+        requires { IsSome (name_of entry.now) }
+        ensures ok { OnOk result (RowAt entry.now self.old.items (name_of entry.now)) }
+        ensures value { OnOk result (self.new ≡ record self.old {
+          is_first = false;
+          is_early = false;
+          items = items_after entry.now (name_of entry.now) self.old.items;
+        }) }
+        ensures err { IfErr result (NamedDeclines entry.now self.old.items) }
+        ensures same { OnErr result (self.new ≡ self.old) }
+    {
+        match change_named(self.alloc, entry, &mut self.items) {
+            Ok(()) => {
+                self.first = false;
+                self.early = false;
+                Ok(())
+            }
+            Err(fault) => Err(fault),
+        }
+    }
+
+    fn add(
+        &mut self,
+        id: ItemId,
+        word: &Text,
+        address: &Text,
+        wish: &Text,
+        digest: Option<[u8; 32]>,
+        at: u64,
+    ) -> Result<(), ApplyFault>
+        ensures room { OnOk result (HasRoom self.old) }
+        ensures ok { OnOk result ((id.0 ≡ self.old.next) × IsFreeWord word.now self.old.items) }
+        ensures value { OnOk result (self.new ≡ record self.old {
+          next = id.0 + 1;
+          is_first = false;
+          is_early = false;
+          items = self.old.items
+              ++ added_item id word.now address.now wish.now digest at ∷ [];
+        }) }
+        ensures err { IfErr result (AddedDeclines self.old id word.now) }
+        ensures same { OnErr result (self.new ≡ self.old) }
+    {
+        let count = self.count();
+        if count >= self.limit || self.next == u32::MAX {
+            return Err(ApplyFault::Full(count));
+        }
+        if id.0 != self.next || !is_free_word(word.bytes(), &self.items) {
+            return Err(ApplyFault::Unlawful(1));
+        }
+        let Ok(item) = make_item(self.alloc, id, word, address, wish, digest, at) else {
+            return Err(ApplyFault::NoMemory);
+        };
+        if !push_item(&mut self.items, item) {
+            return Err(ApplyFault::NoMemory);
+        }
+        self.next = id.0 + 1;
+        self.first = false;
+        self.early = false;
+        Ok(())
+    }
+
+    fn reopen(&mut self, next: u32) -> Result<(), ApplyFault>
+        ensures ok { OnOk result ((next ≡ self.old.next) ⊎ (IsTrue self.old.is_first × (1 ≤ next))) }
+        ensures value { OnOk result (self.new ≡ record self.old {
+          next = cond self.old.is_first next self.old.next;
+          is_first = false;
+          items = map stopped_item self.old.items;
+        }) }
+        ensures err { IfErr result (ReopenedDeclines self.old next) }
+        ensures same { OnErr result (self.new ≡ self.old) }
+    {
+        if !may_reopen(self.first, self.next, next) {
+            return Err(ApplyFault::Unlawful(13));
+        }
+        self.next = next_after(self.first, self.next, next);
+        stop_every(&mut self.items);
+        self.first = false;
+        Ok(())
+    }
+
+    fn restore(&mut self, item: &Item) -> Result<(), ApplyFault>
+        ensures ok { OnOk result (IsRestorable self.old.is_early self.old.next self.old.items
+            item.now) }
+        ensures value { OnOk result (self.new ≡ record self.old {
+          is_first = false;
+          items = self.old.items ++ item.now ∷ [];
+        }) }
+        ensures err { IfErr result (RestoredDeclines self.old item.now) }
+        ensures same { OnErr result (self.new ≡ self.old) }
+    {
+        if !is_restorable(self.early, self.next, &self.items, item) {
+            return Err(ApplyFault::Unlawful(14));
+        }
+        let Ok(copy) = copy_item(self.alloc, item) else {
+            return Err(ApplyFault::NoMemory);
+        };
+        if !push_item(&mut self.items, copy) {
+            return Err(ApplyFault::NoMemory);
+        }
+        self.first = false;
+        Ok(())
+    }
+
+    /// The id of the item with a word. The empty word names none.
+    pub fn by_word(&self, word: &[u8]) -> Option<ItemId>
+        ensures some { IfSome result (HasWordOf word.now self.now.items) }
+        ensures none { IfNone result (IsFreeWord word.now self.now.items) }
+    {
+        if word.is_empty() {
+            return None;
+        }
+        find_word(word, &self.items)
+    }
+
+    /// How the item with an id may go on.
+    pub fn mode(&self, id: ItemId) -> Option<Mode>
+        ensures { result ≡ option_map mode_of_item (item_in id.0 self.now.items) }
+    {
+        match self.get(id) {
+            Some(item) => Some(mode_of_item(item)),
+            None => None,
+        }
+    }
+}
+
+/// The id of the first item with a word.
+fn find_word(word: &[u8], items: &[Item]) -> Option<ItemId>
+    ensures some { IfSome result (IsWordOf word.now items.now) }
+    ensures none { IfNone result (HasNoWord word.now items.now) }
+{
+    match items {
+        [] => None,
+        [item, rest @ ..] => {
+            if item.word.is(word) {
+                Some(item.id)
+            } else {
+                find_word(word, rest)
+            }
+        }
+    }
+}
+
+/// Whether a Reopened may tell this next id: the one that is next, or any from 1 on where it is the
+/// first entry.
+fn may_reopen(first: bool, current: u32, next: u32) -> bool
+    ensures { IsTrue result ↔ ((next ≡ current) ⊎ (IsTrue first × (1 ≤ next))) }
+{
+    next == current || first && next >= 1
+}
+
+/// The next id behind a Reopened.
+fn next_after(first: bool, current: u32, next: u32) -> u32
+    ensures { result ≡ cond first next current }
+{
+    if first { next } else { current }
+}

@@ -1,0 +1,22 @@
+//! The items that a list of recorded entries leaves, and which entry may come next.
+#![tactic(auto)]
+
+mod change;
+mod conditions;
+mod copies;
+mod fault;
+mod items;
+mod names;
+mod restored;
+mod rows;
+mod take;
+
+pub use copies::copy_item;
+pub use fault::ApplyFault;
+pub use items::Items;
+pub use names::same_name;
+pub use restored::is_sound;
+pub use rows::{facts_of, mode_of_item};
+
+#[cfg(test)]
+mod tests;

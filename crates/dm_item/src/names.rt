@@ -1,0 +1,104 @@
+ghost use Rattle.std.specs.Prelude.{◌≡◌, ◌↔◌, IsTrue};
+ghost use Rattle.dm_item.specs.Row.{HasName, IsFreeName, IsSameName, fold_case, is_cancelled, small_of};
+ghost use Rattle.dm_item.specs.Listing.{HasNoWord, HasOwnName, IsAbove, IsApartFrom, IsFreeWord};
+
+use dm_types::{Item, ItemId, Phase};
+
+/// A byte with ASCII capitals made small.
+fn small(byte: u8) -> u8
+    ensures { result ≡ small_of byte }
+{
+    if (b'A'..=b'Z').contains(&byte) {
+        byte + 32
+    } else {
+        byte
+    }
+}
+
+/// Whether two names are the same in ASCII case folding.
+pub fn same_name(name: &[u8], other: &[u8]) -> bool
+    ensures { IsTrue result ↔ IsSameName name.now other.now }
+{
+    match name {
+        [] => other.is_empty(),
+        [byte, rest @ ..] => match other {
+            [] => false,
+            [other_byte, other_rest @ ..] => {
+                small(*byte) == small(*other_byte) && same_name(rest, other_rest)
+            }
+        },
+    }
+}
+
+/// Whether no other item than the one with this id has the name; cancelled items don't count.
+pub(crate) fn is_free_name(id: ItemId, name: &[u8], items: &[Item]) -> bool
+    ensures { IsTrue result ↔ IsFreeName id.0 name.now items.now }
+{
+    match items {
+        [] => true,
+        [item, rest @ ..] => {
+            (item.id == id || item.phase == Phase::Cancelled || !has_name(item, name))
+                && is_free_name(id, name, rest)
+        }
+    }
+}
+
+/// Whether the item has a name that is the same in ASCII case folding.
+fn has_name(item: &Item, name: &[u8]) -> bool
+    ensures { IsTrue result ↔ HasName item.now name.now }
+{
+    match &item.name {
+        Some(other) => same_name(name, other.bytes()),
+        None => false,
+    }
+}
+
+/// Whether the word is empty, or no item has it.
+pub(crate) fn is_free_word(word: &[u8], items: &[Item]) -> bool
+    ensures { IsTrue result ↔ IsFreeWord word.now items.now }
+{
+    word.is_empty() || has_no_word(word, items)
+}
+
+/// Whether no item has the word.
+fn has_no_word(word: &[u8], items: &[Item]) -> bool
+    ensures { IsTrue result ↔ HasNoWord word.now items.now }
+{
+    match items {
+        [] => true,
+        [item, rest @ ..] => !item.word.is(word) && has_no_word(word, rest),
+    }
+}
+
+/// Whether the id is above those of all items.
+pub(crate) fn is_above(id: ItemId, items: &[Item]) -> bool
+    ensures { IsTrue result ↔ IsAbove id.0 items.now }
+{
+    match items {
+        [] => true,
+        [item, rest @ ..] => item.id.0 < id.0 && is_above(id, rest),
+    }
+}
+
+/// Whether no item has the name of this one, where neither is cancelled.
+pub(crate) fn has_own_name(item: &Item, items: &[Item]) -> bool
+    ensures { IsTrue result ↔ HasOwnName item.now items.now }
+{
+    match items {
+        [] => true,
+        [other, rest @ ..] => is_apart_from(item, other) && has_own_name(item, rest),
+    }
+}
+
+/// Whether the names of two items differ, where both have one and neither is cancelled.
+fn is_apart_from(item: &Item, other: &Item) -> bool
+    ensures { IsTrue result ↔ IsApartFrom item.now other.now }
+{
+    if item.phase == Phase::Cancelled || other.phase == Phase::Cancelled {
+        return true;
+    }
+    match &item.name {
+        Some(name) => !has_name(other, name.bytes()),
+        None => true,
+    }
+}

@@ -1,0 +1,113 @@
+ghost use Rattle.std.specs.Prelude.{◌≡◌, ◌<◌, ◌++◌, ◌∷◌, [], IsTrue, IsSome, IsOk, IfErr, OnOk, OnErr, if◌then◌else◌, vec_len, map, slice_index_or, slice_set, remove};
+ghost use Rattle.dm_types.specs.declared.item.Item.{Item};
+ghost use Rattle.dm_item.specs.Fields.{is_gone};
+ghost use Rattle.dm_item.specs.Row.{FitsAutos, Further, allows, changed, name_of, stopped_item};
+ghost use Rattle.dm_item.specs.Listing.{NamedDeclines, NamedTakes, RowDeclines, is_broke, place_in};
+
+use crate::ApplyFault;
+use crate::change::{change, stop_all};
+use crate::conditions::is_further;
+use crate::rows::{kind_of, may_come, name_of};
+use dm_types::{Entry, Item, ItemId, NoMemory};
+use std::alloc::Global;
+
+/// Does what an entry says to the item that it names, or says why not.
+pub(crate) fn change_named(
+    alloc: Global,
+    entry: &Entry,
+    items: &mut Vec<Item>,
+) -> Result<(), ApplyFault>
+    requires { IsSome (name_of entry.now) }
+    ensures ok { OnOk result (NamedTakes entry.now items.old.items items.new.items) }
+    ensures err { IfErr result (NamedDeclines entry.now items.old.items) }
+    ensures same { OnErr result (items.new.items ≡ items.old.items) }
+{
+    let Some(id) = name_of(entry) else {
+        unreachable!();
+    };
+    let Some(place) = find_place(items, id) else {
+        return Err(ApplyFault::NoItem(id));
+    };
+    match check_row(entry, items, &items[place]) {
+        Ok(()) => {}
+        Err(fault) => return Err(fault),
+    }
+    match change_in(alloc, entry, items, place) {
+        Ok(()) => Ok(()),
+        Err(NoMemory) => Err(ApplyFault::NoMemory),
+    }
+}
+
+/// The first place of an item with this id.
+fn find_place(items: &[Item], id: ItemId) -> Option<usize>
+    ensures { result ≡ place_in id.0 items.now }
+{
+    items.iter().position(|item| item.id.0 == id.0)
+}
+
+/// Whether the item's row takes the entry.
+fn check_row(entry: &Entry, items: &[Item], item: &Item) -> Result<(), ApplyFault>
+    ensures phase { OnOk result (IsTrue (allows entry.now item.now.phase)) }
+    ensures further { OnOk result (Further entry.now items.now item.now) }
+    ensures err { IfErr result (RowDeclines entry.now items.now item.now) }
+{
+    if !may_come(entry, item.phase) {
+        return Err(ApplyFault::WrongPhase(item.phase));
+    }
+    if !is_further(entry, items, item) {
+        return Err(ApplyFault::Unlawful(kind_of(entry)));
+    }
+    Ok(())
+}
+
+/// Changes the item at a place, or takes it out.
+fn change_in(
+    alloc: Global,
+    entry: &Entry,
+    items: &mut Vec<Item>,
+    place: usize,
+) -> Result<(), NoMemory>
+    requires within { place < vec_len items.old }
+    requires fits { (d : Item) → FitsAutos entry.now (slice_index_or items.old.items place d) }
+    ensures ok { OnOk result ((d : Item) → items.new.items ≡ (if is_gone entry.now
+        then remove items.old.items place
+        else slice_set items.old.items place
+        (changed entry.now (slice_index_or items.old.items place d)))) }
+    ensures err { OnErr result (items.new.items ≡ items.old.items) }
+    ensures broke { IsTrue (is_broke entry.now) → IsOk result }
+{
+    if is_gone(entry) {
+        remove_item(items, place);
+        Ok(())
+    } else {
+        change(alloc, entry, &mut items[place])
+    }
+}
+
+/// Whether the entry takes its item out of the list.
+fn is_gone(entry: &Entry) -> bool
+    ensures { result ≡ is_gone entry.now }
+{
+    matches!(entry, Entry::Removed { .. } | Entry::Archived { .. })
+}
+
+fn remove_item(items: &mut Vec<Item>, place: usize)
+    requires { place < vec_len items.old }
+    ensures { items.new.items ≡ remove items.old.items place }
+{
+    let _ = items.remove(place);
+}
+
+/// Adds an item at the end; where memory is wanting the list stays.
+pub(crate) fn push_item(items: &mut Vec<Item>, item: Item) -> bool
+    ensures { items.new.items ≡ (if result then items.old.items ++ item ∷ [] else items.old.items) }
+{
+    items.push(item).is_ok()
+}
+
+/// Interrupts each running item.
+pub(crate) fn stop_every(items: &mut Vec<Item>)
+    ensures { items.new.items ≡ map stopped_item items.old.items }
+{
+    stop_all(items);
+}

@@ -1,0 +1,295 @@
+use crate::*;
+use dm_types::{
+    Attempt, By, Entry, Epoch, Item, ItemId, Key, Mode, Phase, Reason, Slice, Slices, Text,
+};
+use std::alloc::Global;
+use std::process::Abort;
+use std::test::Fail;
+
+const DIGEST: [u8; 32] = [7; 32];
+
+fn text(rt: &impl Abort, alloc: Global, bytes: &[u8]) -> Text {
+    Text::from_bytes(alloc, bytes).expect(rt, "memory")
+}
+
+/// A cover of one slice from 0.
+fn slices(rt: &impl Abort, alloc: Global, got: u64, finished: bool) -> Slices {
+    let mut slices = Slices::new(alloc);
+    slices
+        .push(Slice {
+            first: 0,
+            got,
+            finished,
+        })
+        .expect(rt, "memory");
+    slices
+}
+
+fn added(rt: &impl Abort, alloc: Global, id: u32, word: &[u8]) -> Entry {
+    Entry::Added {
+        id: ItemId(id),
+        word: text(rt, alloc, word),
+        address: text(rt, alloc, b"http://h/a"),
+        wish: Text::new(alloc),
+        digest: Some(DIGEST),
+        at: 5,
+    }
+}
+
+fn described(rt: &impl Abort, alloc: Global, id: u32, name: &[u8]) -> Entry {
+    Entry::Described {
+        id: ItemId(id),
+        key: Key::Strong(text(rt, alloc, b"\"a\"")),
+        last_address: text(rt, alloc, b"http://h/b"),
+        total: Some(5),
+        name: text(rt, alloc, name),
+        modified: Text::new(alloc),
+    }
+}
+
+/// An entry of each kind that names item 1.
+fn entry(rt: &impl Abort, alloc: Global, kind: u8) -> Entry {
+    let id = ItemId(1);
+    match kind {
+        2 => Entry::Began {
+            id,
+            attempt: Attempt(2),
+            by: By::User,
+            at: 6,
+        },
+        3 => described(rt, alloc, 1, b"a"),
+        4 => Entry::Progress {
+            id,
+            slices: slices(rt, alloc, 5, true),
+        },
+        5 => Entry::Broke {
+            id,
+            reason: Reason::NetworkTimeout,
+        },
+        6 => Entry::Paused { id },
+        7 => Entry::Cancelled { id },
+        8 => Entry::Restarted {
+            id,
+            epoch: Epoch(2),
+            because: 1,
+        },
+        9 => Entry::Finishing { id, total: 5 },
+        10 => Entry::Done {
+            id,
+            digest: DIGEST,
+            at: 9,
+        },
+        11 => Entry::Removed { id },
+        12 => Entry::Archived { id },
+        _ => Entry::Asked { id },
+    }
+}
+
+/// An item in a phase, with all of its five bytes.
+fn restored(rt: &impl Abort, alloc: Global, phase: Phase) -> Entry {
+    let reason = match phase {
+        Phase::Interrupted(reason) => Some(reason),
+        Phase::Cancelled => Some(Reason::UserCanceled),
+        _ => None,
+    };
+    let have = match phase {
+        Phase::Complete => Some(DIGEST),
+        _ => None,
+    };
+    Entry::Restored {
+        item: Item {
+            id: ItemId(1),
+            word: text(rt, alloc, b"w1"),
+            first_address: text(rt, alloc, b"http://h/a"),
+            wish: Text::new(alloc),
+            digest: Some(DIGEST),
+            phase,
+            reason,
+            epoch: Epoch(1),
+            attempt: Attempt(1),
+            autos: 0,
+            begun: true,
+            key: Some(Key::Strong(text(rt, alloc, b"\"a\""))),
+            last_address: Some(text(rt, alloc, b"http://h/b")),
+            total: Some(5),
+            name: Some(text(rt, alloc, b"a")),
+            modified: Some(Text::new(alloc)),
+            slices: slices(rt, alloc, 5, true),
+            have,
+            at_ms: 5,
+        },
+    }
+}
+
+/// A list with item 1 in a phase.
+fn in_phase(rt: &impl Abort, alloc: Global, phase: Phase) -> Items {
+    let mut items = Items::new(alloc, 9).expect(rt, "memory");
+    let opened = Entry::Reopened { next: 4, at: 0 };
+    items.apply(&opened).expect(rt, "the first entry");
+    let item = restored(rt, alloc, phase);
+    items.apply(&item).expect(rt, "a sound item");
+    items
+}
+
+/// The answer of an entry of this kind to item 1 in a phase.
+fn answer(rt: &impl Abort, alloc: Global, kind: u8, phase: Phase) -> Result<(), ApplyFault> {
+    let entry = entry(rt, alloc, kind);
+    let mut items = in_phase(rt, alloc, phase);
+    items.apply(&entry)
+}
+
+#[test]
+fn each_kind_comes_in_its_phases(rt: HostRuntime) -> Result<(), Fail> {
+    let phases = [
+        Phase::Waiting,
+        Phase::Running,
+        Phase::Paused,
+        Phase::Finishing,
+        Phase::Complete,
+        Phase::Cancelled,
+        Phase::Interrupted(Reason::NetworkTimeout),
+    ];
+    // The phases in their order above in which each kind may come.
+    let rows = [
+        (2, [true, false, false, false, false, false, false]),
+        (3, [false, true, false, false, false, false, false]),
+        (4, [false, true, false, false, false, false, false]),
+        (5, [false, true, false, true, false, false, false]),
+        (6, [true, true, false, false, false, false, true]),
+        (7, [true, true, true, false, false, false, true]),
+        (8, [true, false, false, false, false, false, true]),
+        (9, [false, true, false, false, false, false, false]),
+        (10, [false, false, false, true, false, false, false]),
+        (11, [true, false, true, false, true, true, true]),
+        (12, [false, false, false, false, true, true, false]),
+        (15, [false, false, true, false, false, false, true]),
+    ];
+    for (kind, allowed) in rows {
+        for (phase, may_come) in phases.into_iter().zip(allowed) {
+            let answer = answer(&rt, rt.alloc(), kind, phase);
+            assert_eq!(rt;
+                answer != Err(ApplyFault::WrongPhase(phase)),
+                may_come,
+                "kind {kind}"
+            );
+        }
+    }
+    Ok(())
+}
+
+#[test]
+fn an_item_is_brought(rt: HostRuntime) -> Result<(), Fail> {
+    let mut items = Items::new(rt.alloc(), 1)?;
+    let entries = [
+        Entry::Reopened { next: 1, at: 0 },
+        added(&rt, rt.alloc(), 1, b"w1"),
+        Entry::Began {
+            id: ItemId(1),
+            attempt: Attempt(1),
+            by: By::User,
+            at: 6,
+        },
+        described(&rt, rt.alloc(), 1, b"a"),
+        Entry::Progress {
+            id: ItemId(1),
+            slices: slices(&rt, rt.alloc(), 3, false),
+        },
+        Entry::Broke {
+            id: ItemId(1),
+            reason: Reason::ServerContentLengthMismatch,
+        },
+    ];
+    assert_eq!(rt; items.apply_all(&entries), Ok(()));
+    assert_eq!(rt; items.mode(ItemId(1)), Some(Mode::ImmediateContinue));
+    let more = [
+        Entry::Began {
+            id: ItemId(1),
+            attempt: Attempt(2),
+            by: By::Itself,
+            at: 7,
+        },
+        entry(&rt, rt.alloc(), 4),
+        entry(&rt, rt.alloc(), 9),
+        entry(&rt, rt.alloc(), 10),
+    ];
+    assert_eq!(rt; items.apply_all(&more), Ok(()));
+    let item = items.get(ItemId(1)).ok_or("item 1")?;
+    assert_eq!(rt; item.phase, Phase::Complete);
+    assert_eq!(rt; item.attempt, Attempt(2));
+    assert_eq!(rt; item.autos, 1);
+    assert_eq!(rt; item.have, Some(DIGEST));
+    assert_eq!(rt; item.at_ms, 9);
+    assert_eq!(rt; items.next(), 2);
+    assert_eq!(rt; items.count(), 1);
+    assert_eq!(rt; items.by_word(b"w1"), Some(ItemId(1)));
+    assert_eq!(rt; items.by_word(b""), None);
+    assert_eq!(rt; items.mode(ItemId(1)), Some(Mode::Invalid));
+    assert_eq!(rt; items.mode(ItemId(2)), None);
+    assert_eq!(rt;
+        items.apply(&added(&rt, rt.alloc(), 2, b"w2")),
+        Err(ApplyFault::Full(1))
+    );
+    assert_eq!(rt;
+        items.apply(&Entry::Asked { id: ItemId(2) }),
+        Err(ApplyFault::NoItem(ItemId(2)))
+    );
+    assert_eq!(rt; items.apply(&entry(&rt, rt.alloc(), 12)), Ok(()));
+    assert_eq!(rt; items.count(), 0);
+    Ok(())
+}
+
+#[test]
+fn further_conditions(rt: HostRuntime) -> Result<(), Fail> {
+    let broken = Phase::Interrupted(Reason::NetworkTimeout);
+    assert_eq!(rt;
+        answer(&rt, rt.alloc(), 3, Phase::Running),
+        Err(ApplyFault::Unlawful(3))
+    );
+    assert_eq!(rt;
+        answer(&rt, rt.alloc(), 8, broken),
+        Err(ApplyFault::Unlawful(8))
+    );
+    assert_eq!(rt; answer(&rt, rt.alloc(), 2, Phase::Waiting), Ok(()));
+    let mut items = in_phase(&rt, rt.alloc(), Phase::Running);
+    assert_eq!(rt;
+        items.apply(&added(&rt, rt.alloc(), 4, b"w1")),
+        Err(ApplyFault::Unlawful(1))
+    );
+    assert_eq!(rt; items.apply(&added(&rt, rt.alloc(), 4, b"")), Ok(()));
+    assert_eq!(rt;
+        items.apply(&Entry::Reopened { next: 4, at: 0 }),
+        Err(ApplyFault::Unlawful(13))
+    );
+    assert_eq!(rt; items.apply(&Entry::Reopened { next: 5, at: 0 }), Ok(()));
+    let item = items.get(ItemId(1)).ok_or("item 1")?;
+    assert_eq!(rt; item.phase, Phase::Interrupted(Reason::Crash));
+    assert_eq!(rt; item.reason, Some(Reason::Crash));
+    assert_eq!(rt;
+        items.apply(&restored(&rt, rt.alloc(), Phase::Waiting)),
+        Err(ApplyFault::Unlawful(14))
+    );
+    let begin = Entry::Began {
+        id: ItemId(4),
+        attempt: Attempt(1),
+        by: By::User,
+        at: 6,
+    };
+    assert_eq!(rt; items.apply(&begin), Ok(()));
+    assert_eq!(rt;
+        items.apply(&described(&rt, rt.alloc(), 4, b"A")),
+        Err(ApplyFault::Unlawful(3))
+    );
+    assert_eq!(rt; items.apply(&described(&rt, rt.alloc(), 4, b"b")), Ok(()));
+    Ok(())
+}
+
+#[test]
+fn an_item_is_copied(rt: HostRuntime) -> Result<(), Fail> {
+    let items = in_phase(&rt, rt.alloc(), Phase::Paused);
+    let copy = copy_item(rt.alloc(), items.get(ItemId(1)).ok_or("item 1")?)?;
+    assert!(rt; is_sound(&copy));
+    assert!(rt; copy.word.is(b"w1"));
+    assert!(rt; same_name(b"Hello", b"hELLO"));
+    assert!(rt; !same_name(b"a", b"ab"));
+    Ok(())
+}

@@ -1,0 +1,13 @@
+//! The two tables of `dm`: which reason a cause has, and how an item with a reason may go on.
+#![tactic(auto)]
+
+mod cause;
+mod mode;
+
+pub use cause::{Cause, reason_of};
+pub use mode::{
+    MOST_AUTOS, ModeFacts, because_of, is_continue, is_immediate, is_invalid, is_restart, mode_of,
+};
+
+#[cfg(test)]
+mod tests;

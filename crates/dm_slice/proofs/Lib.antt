@@ -1,0 +1,5 @@
+pub mod Covers
+pub mod Joins
+pub mod Plans
+pub mod Opened
+pub mod Filled

@@ -1,0 +1,3 @@
+pub mod Words
+pub mod Cover
+pub mod Plan
