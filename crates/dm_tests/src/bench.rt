@@ -8,17 +8,15 @@ use dm_edge::{ClockList, NetFault, NetScript, SinkMem, WireFault, WireScript};
 use dm_types::{DiskKind, Listed, NoMemory, Text};
 use std::alloc::Global;
 
-/// Which calls fail, by their numbers: of the disk, of the wire, of the output.
+/// Which calls fail, by their numbers: of the wire, of the output.
 #[derive(Clone, Copy)]
 pub struct Failing {
-    pub disk: Option<u64>,
     pub wire: Option<u64>,
     pub out: Option<u64>,
 }
 
 impl Failing {
     pub const NOTHING: Failing = Failing {
-        disk: None,
         wire: None,
         out: None,
     };

@@ -1,6 +1,7 @@
 // One whole reply into one file, and what stands where none came.
-use crate::bench::{Failing, disk, holds, length_of, run, touch};
+use crate::bench::{Failing, Outcome, disk, holds, length_of, run, touch};
 use dm_types::NoMemory;
+use std::alloc::Global;
 use std::test::Fail;
 
 const WORDS: &[&[u8]] = &[
@@ -15,67 +16,103 @@ const REQUEST: &[u8] =
 
 const HELLO: &[u8] = b"HTTP/1.1 200 OK\r\nContent-Length: 11\r\n\r\nhello world";
 
+const HEAD: usize = 39;
+
 const LINE: &[u8] = b"1 complete 11 11 hello.txt\n";
+
+const CUT_IN_HEAD: &[u8] = b"interrupted 20 NETWORK_FAILED\n";
+
+const CUT_IN_CONTENT: &[u8] = b"interrupted 38 SERVER_CONTENT_LENGTH_MISMATCH\n";
+
+fn is_printed(ran: &Outcome, status: u8, out: &[u8], errs: &[u8]) -> bool {
+    ran.status == status && ran.out.bytes() == out && ran.errs.bytes() == errs
+}
+
+fn stands(alloc: Global, ran: &mut Outcome) -> Result<bool, NoMemory> {
+    Ok(length_of(alloc, &mut ran.disk, b"hello.txt")?.is_some())
+}
+
+/// Whether the name is absent or holds the whole content.
+fn is_safe(alloc: Global, ran: &mut Outcome) -> Result<bool, NoMemory> {
+    let absent = length_of(alloc, &mut ran.disk, b"hello.txt")?.is_none();
+    Ok(absent || holds(alloc, &mut ran.disk, b"hello.txt", b"hello world")?)
+}
+
+/// Whether this stream leaves the name absent and ends so.
+fn is_interrupted(alloc: Global, stream: &[u8], errs: &[u8]) -> Result<bool, NoMemory> {
+    let mut ran = run(alloc, WORDS, stream, disk(alloc, None)?, Failing::NOTHING)?;
+    Ok(is_printed(&ran, 1, b"", errs) && !stands(alloc, &mut ran)?)
+}
+
+/// Whether a disk with this failing call leaves the name absent or whole, and is told.
+fn fails_on_disk(alloc: Global, call: u64) -> Result<bool, NoMemory> {
+    let there = disk(alloc, Some(call))?;
+    let mut ran = run(alloc, WORDS, HELLO, there, Failing::NOTHING)?;
+    Ok(is_printed(&ran, 6, b"", b"disk failed\n") && is_safe(alloc, &mut ran)?)
+}
+
+/// Whether a wire with this failing call leaves the name absent, and is told.
+fn fails_on_wire(alloc: Global, call: u64) -> Result<bool, NoMemory> {
+    let failing = Failing {
+        wire: Some(call),
+        out: None,
+    };
+    let mut ran = run(alloc, WORDS, HELLO, disk(alloc, None)?, failing)?;
+    Ok(is_printed(&ran, 1, b"", CUT_IN_HEAD) && !stands(alloc, &mut ran)?)
+}
+
+/// Whether these words are refused, and nothing is asked.
+fn is_refused(alloc: Global, words: &[&[u8]], errs: &[u8]) -> Result<bool, NoMemory> {
+    let ran = run(alloc, words, HELLO, disk(alloc, None)?, Failing::NOTHING)?;
+    Ok(is_printed(&ran, 2, b"", errs) && ran.request.bytes().is_empty())
+}
 
 #[test]
 fn a_whole_reply_becomes_the_file(rt: HostRuntime) -> Result<(), Fail> {
     let alloc = rt.alloc();
     let mut ran = run(alloc, WORDS, HELLO, disk(alloc, None)?, Failing::NOTHING)?;
-    assert_eq!(rt; ran.status, 0);
-    assert_eq!(rt; ran.out.bytes(), LINE);
-    assert_eq!(rt; ran.errs.bytes(), b"".as_slice());
-    assert_eq!(rt; ran.request.bytes(), REQUEST);
+    assert!(rt; is_printed(&ran, 0, LINE, b""));
+    assert!(rt; ran.request.bytes() == REQUEST);
     assert!(rt; holds(alloc, &mut ran.disk, b"hello.txt", b"hello world")?);
-    assert_eq!(rt;
-        length_of(alloc, &mut ran.disk, b"Unconfirmed 1-1.crdownload")?,
-        None
-    );
     Ok(())
 }
 
 #[test]
-fn each_reply_has_its_ending(rt: HostRuntime) -> Result<(), Fail> {
+fn the_part_is_gone_afterwards(rt: HostRuntime) -> Result<(), Fail> {
     let alloc = rt.alloc();
-    let cases: &[(&[u8], u8, &[u8], &[u8])] = &[
-        (
-            b"HTTP/1.1 200 OK\r\nContent-Length: 0\r\n\r\n",
-            0,
-            b"1 complete 0 0 hello.txt\n",
-            b"",
-        ),
+    let mut ran = run(alloc, WORDS, HELLO, disk(alloc, None)?, Failing::NOTHING)?;
+    let part = length_of(alloc, &mut ran.disk, b"Unconfirmed 1-1.crdownload")?;
+    assert!(rt; part.is_none());
+    Ok(())
+}
+
+#[test]
+fn an_empty_content_becomes_a_file(rt: HostRuntime) -> Result<(), Fail> {
+    let alloc = rt.alloc();
+    let stream = b"HTTP/1.1 200 OK\r\nContent-Length: 0\r\n\r\n";
+    let mut ran = run(alloc, WORDS, stream, disk(alloc, None)?, Failing::NOTHING)?;
+    assert!(rt; is_printed(&ran, 0, b"1 complete 0 0 hello.txt\n", b""));
+    assert!(rt; holds(alloc, &mut ran.disk, b"hello.txt", b"")?);
+    Ok(())
+}
+
+#[test]
+fn each_reply_has_its_reason(rt: HostRuntime) -> Result<(), Fail> {
+    let alloc = rt.alloc();
+    let cases: &[(&[u8], &[u8])] = &[
         (
             b"HTTP/1.1 404 Not Found\r\nContent-Length: 0\r\n\r\n",
-            1,
-            b"",
             b"interrupted 30 SERVER_FAILED\n",
         ),
-        (
-            b"HTTP/1.1 200 OK\r\nContent-Length: 11\r\n\r\nhello",
-            1,
-            b"",
-            b"interrupted 38 SERVER_CONTENT_LENGTH_MISMATCH\n",
-        ),
-        (
-            b"no head\r\n\r\n",
-            1,
-            b"",
-            b"interrupted 33 SERVER_BAD_CONTENT\n",
-        ),
+        (b"no head\r\n\r\n", b"interrupted 33 SERVER_BAD_CONTENT\n"),
         (
             b"HTTP/1.1 200 OK\r\n\r\nhello",
-            1,
-            b"",
             b"interrupted 33 SERVER_BAD_CONTENT\n",
         ),
-        (b"", 1, b"", b"interrupted 20 NETWORK_FAILED\n"),
+        (b"", CUT_IN_HEAD),
     ];
-    for (stream, status, out, errs) in cases {
-        let mut ran = run(alloc, WORDS, stream, disk(alloc, None)?, Failing::NOTHING)?;
-        assert_eq!(rt; ran.status, *status);
-        assert_eq!(rt; ran.out.bytes(), *out);
-        assert_eq!(rt; ran.errs.bytes(), *errs);
-        let stands = length_of(alloc, &mut ran.disk, b"hello.txt")?.is_some();
-        assert_eq!(rt; stands, *status == 0);
+    for (stream, errs) in cases {
+        assert!(rt; is_interrupted(alloc, stream, errs)?);
     }
     Ok(())
 }
@@ -86,90 +123,56 @@ fn a_name_alike_is_taken(rt: HostRuntime) -> Result<(), Fail> {
     let mut there = disk(alloc, None)?;
     assert!(rt; touch(alloc, &mut there, b"HELLO.TXT")?);
     let mut ran = run(alloc, WORDS, HELLO, there, Failing::NOTHING)?;
-    assert_eq!(rt; ran.status, 1);
-    assert_eq!(rt; ran.errs.bytes(), b"interrupted 1 FILE_FAILED\n".as_slice());
-    assert_eq!(rt; length_of(alloc, &mut ran.disk, b"hello.txt")?, None);
-    assert_eq!(rt; length_of(alloc, &mut ran.disk, b"HELLO.TXT")?, Some(0));
+    assert!(rt; is_printed(&ran, 1, b"", b"interrupted 1 FILE_FAILED\n"));
+    assert!(rt; !stands(alloc, &mut ran)?);
+    assert!(rt; holds(alloc, &mut ran.disk, b"HELLO.TXT", b"")?);
     Ok(())
 }
 
 #[test]
 fn a_stream_cut_anywhere_leaves_no_name(rt: HostRuntime) -> Result<(), Fail> {
     let alloc = rt.alloc();
-    let head = HELLO.len() - 11;
     for end in 0..HELLO.len() {
-        let mut ran = run(
-            alloc,
-            WORDS,
-            &HELLO[..end],
-            disk(alloc, None)?,
-            Failing::NOTHING,
-        )?;
-        let errs: &[u8] = if end < head {
-            b"interrupted 20 NETWORK_FAILED\n"
+        let errs = if end < HEAD {
+            CUT_IN_HEAD
         } else {
-            b"interrupted 38 SERVER_CONTENT_LENGTH_MISMATCH\n"
+            CUT_IN_CONTENT
         };
-        assert_eq!(rt; ran.status, 1, "cut at {end}");
-        assert_eq!(rt; ran.errs.bytes(), errs, "cut at {end}");
-        assert_eq!(rt;
-            length_of(alloc, &mut ran.disk, b"hello.txt")?,
-            None,
-            "cut at {end}"
-        );
+        assert!(rt; is_interrupted(alloc, &HELLO[..end], errs)?, "cut at {end}");
     }
     Ok(())
 }
 
-/// Whether a failed call left the name absent or whole.
-fn is_safe(alloc: std::alloc::Global, ran: &mut crate::bench::Outcome) -> Result<bool, NoMemory> {
-    let absent = length_of(alloc, &mut ran.disk, b"hello.txt")?.is_none();
-    Ok(absent || holds(alloc, &mut ran.disk, b"hello.txt", b"hello world")?)
-}
-
 #[test]
-fn each_failing_call_has_its_status(rt: HostRuntime) -> Result<(), Fail> {
+fn each_failing_call_of_the_disk_is_told(rt: HostRuntime) -> Result<(), Fail> {
     let alloc = rt.alloc();
     // names, length, create, write, sync, rename, sync of the names
     for call in 0..7 {
-        let mut ran = run(
-            alloc,
-            WORDS,
-            HELLO,
-            disk(alloc, Some(call))?,
-            Failing::NOTHING,
-        )?;
-        assert_eq!(rt; ran.status, 6, "disk call {call}");
-        assert_eq!(rt;
-            ran.errs.bytes(),
-            b"disk failed\n".as_slice(),
-            "disk call {call}"
-        );
-        assert_eq!(rt; ran.out.bytes(), b"".as_slice(), "disk call {call}");
-        assert!(rt; is_safe(alloc, &mut ran)?, "disk call {call}");
+        assert!(rt; fails_on_disk(alloc, call)?, "call {call}");
     }
+    Ok(())
+}
+
+#[test]
+fn each_failing_call_of_the_wire_is_told(rt: HostRuntime) -> Result<(), Fail> {
+    let alloc = rt.alloc();
     // the send and the receive
     for call in 0..2 {
-        let failing = Failing {
-            wire: Some(call),
-            ..Failing::NOTHING
-        };
-        let mut ran = run(alloc, WORDS, HELLO, disk(alloc, None)?, failing)?;
-        assert_eq!(rt; ran.status, 1, "wire call {call}");
-        assert_eq!(rt;
-            ran.errs.bytes(),
-            b"interrupted 20 NETWORK_FAILED\n".as_slice()
-        );
-        assert_eq!(rt; length_of(alloc, &mut ran.disk, b"hello.txt")?, None);
+        assert!(rt; fails_on_wire(alloc, call)?, "call {call}");
     }
+    Ok(())
+}
+
+#[test]
+fn a_failing_output_has_status_7(rt: HostRuntime) -> Result<(), Fail> {
+    let alloc = rt.alloc();
     let failing = Failing {
+        wire: None,
         out: Some(0),
-        ..Failing::NOTHING
     };
-    let ran = run(alloc, WORDS, HELLO, disk(alloc, None)?, failing)?;
-    assert_eq!(rt; ran.status, 7);
-    assert_eq!(rt; ran.out.bytes(), b"".as_slice());
-    assert_eq!(rt; ran.errs.bytes(), b"".as_slice());
+    let mut ran = run(alloc, WORDS, HELLO, disk(alloc, None)?, failing)?;
+    assert!(rt; is_printed(&ran, 7, b"", b""));
+    assert!(rt; is_safe(alloc, &mut ran)?);
     Ok(())
 }
 
@@ -184,10 +187,7 @@ fn refused_words_do_nothing(rt: HostRuntime) -> Result<(), Fail> {
         (&[b"get", b"--name", b"a", b"http://u@h/"], b"bad address\n"),
     ];
     for (words, errs) in cases {
-        let ran = run(alloc, words, HELLO, disk(alloc, None)?, Failing::NOTHING)?;
-        assert_eq!(rt; ran.status, 2);
-        assert_eq!(rt; ran.errs.bytes(), *errs);
-        assert_eq!(rt; ran.request.bytes(), b"".as_slice());
+        assert!(rt; is_refused(alloc, words, errs)?);
     }
     Ok(())
 }
