@@ -1,5 +1,5 @@
 -- Both folders, the images that a crash may leave of them, and the disk's clock.
-use Rattle.std.specs.Prelude.{◌≡◌, ◌⊎◌, ℕ, ◌<◌, ◌≤◌, List, length, take, drop, Option, None, IsSome, Result, Ok, Err}
+use Rattle.std.specs.Prelude.{◌≡◌, ◌≢◌, ◌⊎◌, ℕ, ◌<◌, ◌≤◌, List, length, take, drop, Option, None, IsSome, Result, Ok, Err}
 use Rattle.dm_disk_model.specs.declared.place.Area.{Area}
 use Rattle.dm_disk_model.specs.declared.place.Area.TheVariants.{State, Files}
 use Rattle.dm_disk_model.specs.declared.place.Place.{Place}
@@ -67,6 +67,10 @@ StandsNot disk place = names_of (folder_in place.area disk) place.name ≡ None
 -- what is read at a place, where something stands
 abbrev pub bytes_at : DiskState → Place → Option (List ℕ)
 bytes_at disk place = contents_of (folder_in place.area disk) place.name
+
+-- every other place reads as before
+abbrev pub ChangesOnly : Place → DiskState → DiskState → Type 0
+ChangesOnly place old new = (other : Place) → other ≢ place → bytes_at new other ≡ bytes_at old other
 
 -- What a call does, by its answer. A call that fails may have been begun, or has changed nothing.
 abbrev pub Done : (DiskState → DiskState → Type 0) → (DiskState → DiskState → Type 0) → Result (Unit {0}) DiskFault → DiskState → DiskState → Type 0

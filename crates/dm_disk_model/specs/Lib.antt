@@ -5,3 +5,4 @@ pub mod Firm
 pub mod Folder
 pub mod Laws
 pub mod Moments
+pub mod Names

@@ -1,0 +1,192 @@
+-- A name that is given once, by one rename of a settled file, over the steps of a disk and over its moments.
+use Rattle.std.proofs.Common.{◌≡◌, ℕ, List, [], ◌∷◌, ◌++◌, length, take, Option, Some, None, Result, Ok, Err, ◌⊎◌, inl, inr, refl, sym, ◌∙◌, ap, subst, arith}
+use Rattle.std.specs.Prelude.{◌≢◌}
+use Rattle.std.proofs.lemmas.List.{take_all, take-append-le, length-append}
+use Rattle.std.proofs.lemmas.Grind.{same_number_lists}
+use Rattle.std.proofs.lemmas.Bool.{cases_lt}
+use Rattle.dm_disk_model.specs.declared.place.Area.{Area}
+use Rattle.dm_disk_model.specs.declared.place.Area.TheVariants.{State, Files}
+use Rattle.dm_disk_model.specs.declared.place.Place.{Place}
+use Rattle.dm_disk_model.specs.declared.place.DiskFault.{DiskFault}
+use Rattle.dm_disk_model.specs.File.{File, FileLeaves, IsWritten, IsTorn, IsSynced}
+use Rattle.dm_disk_model.specs.Folder.{Folder, Names, names_of, EachPrefix, Change, Created, Renamed, Removed, after_change, after_changes, with_name, FileSteps, Creates, Changes, SyncsNames, NameLeaves, FolderLeaves}
+use Rattle.dm_disk_model.specs.Disk.{DiskState, Image, History, Next, now, folder_in, InArea, MayLeave, bytes_at, CreateStep, WriteStep, SyncStep, RemoveStep, SyncNamesStep}
+use Rattle.dm_disk_model.specs.Names.{IsAbsent, NeverStands, settled_file, IsSettled, IsGiven, folder_of_image, image_at, LeavesNothingOr, LeavesNothing, Throughout}
+use Rattle.dm_disk_model.proofs.Reading.{with_name_same, with_name_other, names_of-changed, stepped_read}
+use Rattle.dm_disk_model.proofs.Places.{in_folder}
+
+-- a property of the names after each prefix, over one more change
+module _ (old new : Folder) (change : Change) (P : Names → Type 0) (synced : new.synced ≡ old.synced) (changes : new.changes ≡ old.changes ++ change ∷ []) where
+  pub each_prefix_push : EachPrefix old P → P (after_change (names_of old) change) → EachPrefix new P
+  each_prefix_push before last count = elim (cases_lt (length old.changes) count) [
+    | inr within ↦
+        subst P (sym (ap (λ (s : Names). after_changes s (take count new.changes)) synced ∙ ap (λ (cs : List Change). after_changes old.synced (take count cs)) changes ∙ ap (after_changes old.synced) (take-append-le count old.changes (change ∷ []) within))) (before count)
+    | inl past ↦
+        subst P (sym (ap (after_changes new.synced) (take_all count new.changes (omega (arith, ap length changes, length-append old.changes (change ∷ [])))) ∙ names_of-changed old new change synced changes)) last
+  ]
+
+each_prefix_same : (old new : Folder) (P : Names → Type 0) → new.synced ≡ old.synced → new.changes ≡ old.changes → EachPrefix old P → EachPrefix new P
+each_prefix_same old new P synced changes before count =
+    subst P (sym (ap (λ (s : Names). after_changes s (take count new.changes)) synced ∙ ap (λ (cs : List Change). after_changes old.synced (take count cs)) changes)) (before count)
+
+take_none : (count : ℕ) (changes : List Change) → changes ≡ [] → take count changes ≡ []
+take_none count changes none = ap (take count) none ∙ take_all count [] (omega arith)
+
+each_prefix_synced : (old new : Folder) (P : Names → Type 0) → SyncsNames old new → EachPrefix old P → EachPrefix new P
+each_prefix_synced old new P step before count =
+    subst P (sym (ap (λ (s : Names). after_changes s (take count new.changes)) step.synced ∙ ap (after_changes (names_of old)) (take_none count new.changes step.changes)))
+    (subst P (ap (after_changes old.synced) (take_all (length old.changes) old.changes (omega arith))) (before (length old.changes)))
+
+-- a name that never stands stays so where another name is created, renamed or removed
+module _ (name other : List ℕ) (differ : name ≢ other) (old new : Folder) where
+  absent_created : Creates other old new → IsAbsent name old → IsAbsent name new
+  absent_created step before =
+      each_prefix_push old new (Created other step.number) (λ names. names name ≡ None) step.synced step.changes before
+      (with_name_other (names_of old) other (Some step.number) name differ ∙ now_absent old before) where
+        now_absent : (folder : Folder) → IsAbsent name folder → names_of folder name ≡ None
+        now_absent folder absent = subst (λ (ns : Names). ns name ≡ None) (ap (after_changes folder.synced) (take_all (length folder.changes) folder.changes (omega arith))) (absent (length folder.changes))
+
+  absent_removed : Changes (Removed other) old new → IsAbsent name old → IsAbsent name new
+  absent_removed step before =
+      each_prefix_push old new (Removed other) (λ names. names name ≡ None) step.synced step.changes before
+      (with_name_other (names_of old) other None name differ ∙ subst (λ (ns : Names). ns name ≡ None) (ap (after_changes old.synced) (take_all (length old.changes) old.changes (omega arith))) (before (length old.changes)))
+
+-- a property of a folder, over a step in one area
+kept_in_area : (a b : Area) (step : Folder → Folder → Type 0) (P : Folder → Type 0) (old new : DiskState) → InArea a step old new → ((f g : Folder) → step f g → P f → P g) → P (folder_in b old) → P (folder_in b new)
+kept_in_area State State step P old new taken keeps before = keeps old.state new.state taken.0 before
+kept_in_area Files Files step P old new taken keeps before = keeps old.files new.files taken.0 before
+kept_in_area State Files step P old new taken keeps before = subst P (sym taken.1) before
+kept_in_area Files State step P old new taken keeps before = subst P (sym taken.1) before
+
+-- a step of a file changes no names
+absent_stepped : (name other : List ℕ) (step : File → File → Type 0) (f g : Folder) → FileSteps other step f g → IsAbsent name f → IsAbsent name g
+absent_stepped name other step f g steps before = each_prefix_same f g (λ names. names name ≡ None) steps.synced steps.changes before
+
+same_state : (P : DiskState → Type 0) (old new : DiskState) → new ≡ old → P old → P new
+same_state P old new same before = subst P (sym same) before
+
+-- the place never stands, whatever is done at a place of another name
+module _ (target place : Place) (differ : target.name ≢ place.name) (old new : DiskState) (before : NeverStands target old) where
+  pub absent_create : (result : Result (Unit {0}) DiskFault) → CreateStep place result old new → NeverStands target new
+  absent_create (Ok done) step = kept_in_area place.area target.area (Creates place.name) (IsAbsent target.name) old new step (absent_created target.name place.name differ) before
+  absent_create (Err fault) (inl step) = kept_in_area place.area target.area (Creates place.name) (IsAbsent target.name) old new step (absent_created target.name place.name differ) before
+  absent_create (Err fault) (inr same) = same_state (NeverStands target) old new same before
+
+  pub absent_write : (at : ℕ) (bytes : List ℕ) (result : Result (Unit {0}) DiskFault) → WriteStep place at bytes result old new → NeverStands target new
+  absent_write at bytes (Ok done) step = kept_in_area place.area target.area (FileSteps place.name (IsWritten at bytes)) (IsAbsent target.name) old new step (absent_stepped target.name place.name (IsWritten at bytes)) before
+  absent_write at bytes (Err fault) (inl step) = kept_in_area place.area target.area (FileSteps place.name (IsTorn at (length bytes))) (IsAbsent target.name) old new step (absent_stepped target.name place.name (IsTorn at (length bytes))) before
+  absent_write at bytes (Err fault) (inr same) = same_state (NeverStands target) old new same before
+
+  pub absent_sync : (result : Result (Unit {0}) DiskFault) → SyncStep place result old new → NeverStands target new
+  absent_sync (Ok done) step = kept_in_area place.area target.area (FileSteps place.name IsSynced) (IsAbsent target.name) old new step (absent_stepped target.name place.name IsSynced) before
+  absent_sync (Err fault) (inl same) = same_state (NeverStands target) old new same before
+  absent_sync (Err fault) (inr same) = same_state (NeverStands target) old new same before
+
+  pub absent_remove : (result : Result (Unit {0}) DiskFault) → RemoveStep place result old new → NeverStands target new
+  absent_remove (Ok done) step = kept_in_area place.area target.area (Changes (Removed place.name)) (IsAbsent target.name) old new step (absent_removed target.name place.name differ) before
+  absent_remove (Err fault) (inl step) = kept_in_area place.area target.area (Changes (Removed place.name)) (IsAbsent target.name) old new step (absent_removed target.name place.name differ) before
+  absent_remove (Err fault) (inr same) = same_state (NeverStands target) old new same before
+
+-- after a sync that answered Ok the file holds what it did, all of it clean
+pub settled_sync : (place : Place) (bytes : List ℕ) (old new : DiskState) → bytes_at old place ≡ Some bytes → SyncStep place (Ok tt) old new → IsSettled place bytes new
+settled_sync place bytes old new reads step =
+    let taken = in_folder place.area (FileSteps place.name IsSynced) old new step in
+    let was : Some (((folder_in place.area old).file taken.number).bytes) ≡ Some bytes = sym (stepped_read place.name IsSynced _ _ taken) ∙ reads in
+    let held : ((folder_in place.area old).file taken.number).bytes ≡ bytes = cc in
+    record {
+      number = taken.number;
+      stands = ap (λ (s : Names). after_changes s (folder_in place.area new).changes place.name) taken.synced ∙ ap (λ (cs : List Change). after_changes (folder_in place.area old).synced cs place.name) taken.changes ∙ taken.stands;
+      settled = taken.stepped ∙ ap settled_file held;
+    }
+
+-- A rename of a settled file gives the new name, whose file is whole in whichever image has it.
+given_changed : (from to : List ℕ) (bytes : List ℕ) (old new : Folder) (number : ℕ) → names_of old from ≡ Some number → old.file number ≡ settled_file bytes
+    → IsAbsent to old → Changes (Renamed from to) old new → IsGiven to bytes new
+given_changed from to bytes old new number stands settled absent step = record {
+  number = number;
+  names = each_prefix_push old new (Renamed from to) (λ names. (names to ≡ None) ⊎ (names to ≡ Some number)) step.synced step.changes (λ count. inl (absent count)) (inr (with_name_same (with_name (names_of old) from None) to (names_of old from) ∙ stands));
+  settled = ap (λ (files : ℕ → File). files number) step.files ∙ settled;
+}
+
+pub given_rename : (from to : Place) (bytes : List ℕ) (old new : DiskState) → to.area ≡ from.area → IsSettled from bytes old → NeverStands to old
+    → InArea from.area (Changes (Renamed from.name to.name)) old new → IsGiven to.name bytes (folder_in to.area new)
+given_rename from to bytes old new one_area settled absent taken =
+    subst (λ (a : Area). IsGiven to.name bytes (folder_in a new)) (sym one_area)
+    (given_changed from.name to.name bytes _ _ settled.number settled.stands settled.settled (subst (λ (a : Area). IsAbsent to.name (folder_in a old)) one_area absent)
+    (in_folder from.area (Changes (Renamed from.name to.name)) old new taken))
+
+-- a sync of names keeps it
+given_synced : (name bytes : List ℕ) (old new : Folder) → SyncsNames old new → IsGiven name bytes old → IsGiven name bytes new
+given_synced name bytes old new step given = record {
+  number = given.number;
+  names = each_prefix_synced old new (λ names. (names name ≡ None) ⊎ (names name ≡ Some given.number)) step given.names;
+  settled = ap (λ (files : ℕ → File). files given.number) step.files ∙ given.settled;
+}
+
+pub given_names_synced : (target : Place) (bytes : List ℕ) (area : Area) (result : Result (Unit {0}) DiskFault) (old new : DiskState) → SyncNamesStep area result old new
+    → IsGiven target.name bytes (folder_in target.area old) → IsGiven target.name bytes (folder_in target.area new)
+given_names_synced target bytes area (Ok done) old new step given = kept_in_area area target.area SyncsNames (IsGiven target.name bytes) old new step (given_synced target.name bytes) given
+given_names_synced target bytes area (Err fault) old new (inl same) given = subst (λ (d : DiskState). IsGiven target.name bytes (folder_in target.area d)) (sym same) given
+given_names_synced target bytes area (Err fault) old new (inr same) given = subst (λ (d : DiskState). IsGiven target.name bytes (folder_in target.area d)) (sym same) given
+
+absent_synced : (name : List ℕ) (old new : Folder) → SyncsNames old new → IsAbsent name old → IsAbsent name new
+absent_synced name old new step before = each_prefix_synced old new (λ names. names name ≡ None) step before
+
+pub absent_names_synced : (target : Place) (area : Area) (result : Result (Unit {0}) DiskFault) (old new : DiskState) → SyncNamesStep area result old new → NeverStands target old → NeverStands target new
+absent_names_synced target area (Ok done) old new step before = kept_in_area area target.area SyncsNames (IsAbsent target.name) old new step (absent_synced target.name) before
+absent_names_synced target area (Err fault) old new (inl same) before = same_state (NeverStands target) old new same before
+absent_names_synced target area (Err fault) old new (inr same) before = same_state (NeverStands target) old new same before
+
+-- what a crash leaves of a settled file is what it holds
+settled_leaves : (bytes left : List ℕ) → FileLeaves (settled_file bytes) left → left ≡ bytes
+settled_leaves bytes left leaves =
+    same_number_lists left bytes (omega (arith, leaves.no_shorter, leaves.no_longer)) (λ k below. leaves.clean k (record { below = omega (arith, leaves.no_longer); untouched = tt }))
+
+name_leaves_none : (file : ℕ → File) (found : Option (List ℕ)) → NameLeaves file None found → found ≡ None
+name_leaves_none file None leaves = refl
+name_leaves_none file (Some bytes) leaves = absurd leaves
+
+name_leaves_settled : (file : ℕ → File) (number : ℕ) (bytes : List ℕ) (found : Option (List ℕ)) → file number ≡ settled_file bytes → NameLeaves file (Some number) found → found ≡ Some bytes
+name_leaves_settled file number bytes None settled leaves = absurd leaves
+name_leaves_settled file number bytes (Some left) settled leaves = ap Some (settled_leaves bytes left (subst (λ (f : File). FileLeaves f left) settled leaves))
+
+folder_leaves : (area : Area) (disk : DiskState) (image : Image) → MayLeave disk image → FolderLeaves (folder_in area disk) (folder_of_image area image)
+folder_leaves State disk image leaves = leaves.state
+folder_leaves Files disk image leaves = leaves.files
+
+-- where the name never stands, no image has it
+pub absent_leaves : (place : Place) (disk : DiskState) → NeverStands place disk → LeavesNothing place disk
+absent_leaves place disk absent image leaves =
+    let left = folder_leaves place.area disk image leaves in
+    let folder = folder_in place.area disk in
+    name_leaves_none folder.file _ (subst (λ (n : Option ℕ). NameLeaves folder.file n (image_at image place)) (absent left.survive) (left.each place.name))
+
+-- where the name was given, each image has nothing there, or the whole file
+pub given_leaves : (place : Place) (bytes : List ℕ) (disk : DiskState) → IsGiven place.name bytes (folder_in place.area disk) → LeavesNothingOr place bytes disk
+given_leaves place bytes disk given image leaves =
+    let left = folder_leaves place.area disk image leaves in
+    let folder = folder_in place.area disk in
+    elim (given.names left.survive) [
+      | inl none ↦ inl (name_leaves_none folder.file _ (subst (λ (n : Option ℕ). NameLeaves folder.file n (image_at image place)) none (left.each place.name)))
+      | inr some ↦ inr (name_leaves_settled folder.file given.number bytes _ given.settled (subst (λ (n : Option ℕ). NameLeaves folder.file n (image_at image place)) some (left.each place.name)))
+    ]
+
+-- moments: from one history to itself, and on by a call
+pub throughout_start : (h : History) (P : DiskState → Type 0) → P (now h) → Throughout h h P
+throughout_start h P here = record { later = omega arith; kept = λ t le. refl; each = λ t from to. subst (λ (m : ℕ). P (h.at m)) (let e : h.moment ≡ t = omega arith in e) here }
+
+pub throughout_next : (start old new : History) (P : DiskState → Type 0) (step : DiskState → DiskState → Type 0) → Throughout start old P → Next old new step → P (now new) → Throughout start new P
+throughout_next start old new P step so_far next after = record {
+  later = omega (arith, so_far.later, next.later);
+  kept = λ t le. next.kept t (omega (arith, so_far.later)) ∙ so_far.kept t le;
+  each = λ t from to. elim (cases_lt old.moment t) [
+    | inr before ↦ subst P (sym (next.kept t before)) (so_far.each t from before)
+    | inl since ↦ elim (next.between t (omega arith) to) [
+      | inl was ↦ subst P (sym was) (so_far.each old.moment so_far.later (omega arith))
+      | inr is ↦ subst P (sym is) after
+    ]
+  ];
+}
+
+pub throughout_weaker : (start old : History) (P Q : DiskState → Type 0) → ((d : DiskState) → P d → Q d) → Throughout start old P → Throughout start old Q
+throughout_weaker start old P Q weaker so_far = record { later = so_far.later; kept = so_far.kept; each = λ t from to. weaker _ (so_far.each t from to) }
