@@ -9,9 +9,9 @@ use Rattle.dm_disk_model.specs.declared.place.Area.TheVariants.{State, Files}
 use Rattle.dm_disk_model.specs.declared.place.Place.{Place}
 use Rattle.dm_disk_model.specs.declared.place.DiskFault.{DiskFault}
 use Rattle.dm_disk_model.specs.File.{File, FileLeaves, IsWritten, IsTorn, IsSynced}
-use Rattle.dm_disk_model.specs.Folder.{Folder, Names, names_of, EachPrefix, Change, Created, Renamed, Removed, after_change, after_changes, with_name, FileSteps, Creates, Changes, SyncsNames, NameLeaves, FolderLeaves}
+use Rattle.dm_disk_model.specs.Folder.{Folder, Names, names_of, names_after, EachPrefix, Change, Created, Renamed, Removed, after_change, after_changes, with_name, FileSteps, Creates, Changes, SyncsNames, NameLeaves, FolderLeaves}
 use Rattle.dm_disk_model.specs.Disk.{DiskState, Image, History, Next, now, folder_in, InArea, MayLeave, bytes_at, CreateStep, WriteStep, SyncStep, RemoveStep, SyncNamesStep}
-use Rattle.dm_disk_model.specs.Names.{IsAbsent, NeverStands, settled_file, IsSettled, IsGiven, folder_of_image, image_at, LeavesNothingOr, LeavesNothing, Throughout}
+use Rattle.dm_disk_model.specs.Names.{IsAbsent, NeverStands, settled_file, IsSettled, IsGiven, folder_of_image, image_at, LeavesNothingOr, LeavesNothing, LeavesJust, Throughout}
 use Rattle.dm_disk_model.proofs.Reading.{with_name_same, with_name_other, names_of-changed, stepped_read}
 use Rattle.dm_disk_model.proofs.Places.{in_folder}
 
@@ -170,6 +170,32 @@ given_leaves place bytes disk given image leaves =
       | inl none ↦ inl (name_leaves_none folder.file _ (subst (λ (n : Option ℕ). NameLeaves folder.file n (image_at image place)) none (left.each place.name)))
       | inr some ↦ inr (name_leaves_settled folder.file given.number bytes _ given.settled (subst (λ (n : Option ℕ). NameLeaves folder.file n (image_at image place)) some (left.each place.name)))
     ]
+
+-- A settled file that was renamed, with the names synced since, is in each image.
+just_synced : (to : List ℕ) (bytes : List ℕ) (mid new : Folder) (number : ℕ) → names_of mid to ≡ Some number → mid.file number ≡ settled_file bytes → SyncsNames mid new
+    → ((count : ℕ) → names_after new count to ≡ Some number) × (new.file number ≡ settled_file bytes)
+just_synced to bytes mid new number named settled step =
+    ( λ count. ap (λ (ns : Names). ns to) (ap (λ (s : Names). after_changes s (take count new.changes)) step.synced ∙ ap (after_changes (names_of mid)) (take_none count new.changes step.changes)) ∙ named
+    , ap (λ (files : ℕ → File). files number) step.files ∙ settled )
+
+just_leaves : (place : Place) (bytes : List ℕ) (disk : DiskState) (number : ℕ) → ((count : ℕ) → names_after (folder_in place.area disk) count place.name ≡ Some number)
+    → (folder_in place.area disk).file number ≡ settled_file bytes → LeavesJust place bytes disk
+just_leaves place bytes disk number names settled image leaves =
+    let left = folder_leaves place.area disk image leaves in
+    let folder = folder_in place.area disk in
+    name_leaves_settled folder.file number bytes _ settled (subst (λ (n : Option ℕ). NameLeaves folder.file n (image_at image place)) (names left.survive) (left.each place.name))
+
+pub just_published : (from to : Place) (bytes : List ℕ) (old mid new : DiskState) → to.area ≡ from.area → IsSettled from bytes old
+    → InArea from.area (Changes (Renamed from.name to.name)) old mid → InArea to.area SyncsNames mid new → LeavesJust to bytes new
+just_published from to bytes old mid new one_area settled renamed synced =
+    let step = in_folder from.area (Changes (Renamed from.name to.name)) old mid renamed in
+    let named : names_of (folder_in from.area mid) to.name ≡ Some settled.number =
+        ap (λ (ns : Names). ns to.name) (names_of-changed (folder_in from.area old) (folder_in from.area mid) (Renamed from.name to.name) step.synced step.changes) ∙ with_name_same (with_name (names_of (folder_in from.area old)) from.name None) to.name (names_of (folder_in from.area old) from.name) ∙ settled.stands in
+    let whole : (folder_in from.area mid).file settled.number ≡ settled_file bytes = ap (λ (files : ℕ → File). files settled.number) step.files ∙ settled.settled in
+    let after = just_synced to.name bytes (folder_in to.area mid) (folder_in to.area new) settled.number
+        (subst (λ (a : Area). names_of (folder_in a mid) to.name ≡ Some settled.number) (sym one_area) named) (subst (λ (a : Area). (folder_in a mid).file settled.number ≡ settled_file bytes) (sym one_area) whole)
+        (in_folder to.area SyncsNames mid new synced) in
+    just_leaves to bytes new settled.number after.0 after.1
 
 -- moments: from one history to itself, and on by a call
 pub throughout_start : (h : History) (P : DiskState → Type 0) → P (now h) → Throughout h h P

@@ -43,6 +43,10 @@ image_at image place = folder_of_image place.area image place.name
 abbrev pub LeavesNothingOr : Place → List ℕ → DiskState → Type 0
 LeavesNothingOr place bytes disk = (image : Image) → MayLeave disk image → (image_at image place ≡ None) ⊎ (image_at image place ≡ Some bytes)
 
+-- a crash now leaves the place with exactly these bytes
+abbrev pub LeavesJust : Place → List ℕ → DiskState → Type 0
+LeavesJust place bytes disk = (image : Image) → MayLeave disk image → image_at image place ≡ Some bytes
+
 -- a crash now leaves the place with nothing
 abbrev pub LeavesNothing : Place → DiskState → Type 0
 LeavesNothing place disk = (image : Image) → MayLeave disk image → image_at image place ≡ None

@@ -1,4 +1,8 @@
+pub mod Chain
+pub mod Counts
 pub mod Faults
 pub mod Origin
+pub mod Script
 pub mod Sink
+pub mod SinkMem
 pub mod Wire

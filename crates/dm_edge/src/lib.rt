@@ -1,16 +1,32 @@
 //! The outside as `dm` meets it: wires, nets, sinks and clocks, and the origin that says the bytes.
 #![tactic(auto)]
 
+mod chain;
 mod clock;
+mod clock_list;
+mod counts;
 mod fault;
 mod net;
+mod net_script;
 mod origin;
+mod script;
 mod sink;
+mod sink_mem;
 mod wire;
+mod wire_mem;
 
 pub use clock::Clock;
+pub use clock_list::ClockList;
+pub use counts::{NetCounts, WireCounts};
 pub use fault::{EdgeFault, NetFault, WireFault};
 pub use net::Net;
+pub use net_script::NetScript;
 pub use origin::{EveryByte, Generated, Origin};
+pub use script::{Exchange, NetFails, WireFails, WireScript, WireScripts};
 pub use sink::Sink;
+pub use sink_mem::SinkMem;
 pub use wire::Wire;
+pub use wire_mem::WireMem;
+
+#[cfg(test)]
+mod tests;

@@ -52,4 +52,7 @@ pub trait Net {
         ensures later { NoneFell (faults self.old) (faults self.new) }
         ensures counted { (kind : OnWire) → 0 < Self.W.faults wire kind
             → Rose (faults self.old (net_count_of kind)) (faults self.new (net_count_of kind)) };
+
+    /// Where the net tells, its wires do.
+    ghost wires_tell: { tells → Self.W.tells };
 }

@@ -4,10 +4,13 @@ use Rattle.std.specs.Prelude.{◌≢◌}
 use Rattle.dm_disk_model.specs.declared.place.Area.{Area}
 use Rattle.dm_disk_model.specs.declared.place.Place.{Place}
 use Rattle.dm_disk_model.specs.declared.place.DiskFault.{DiskFault}
-use Rattle.dm_disk_model.specs.Disk.{DiskState, History, Next, now, bytes_at, CreateStep, RemoveStep, RenameStep, SyncNamesStep}
-use Rattle.dm_disk_model.specs.Names.{IsSettled, NeverStands, LeavesNothing, LeavesNothingOr, Throughout}
-use Rattle.dm_disk_model.proofs.Places.{create_reads, remove_reads, rename_reads, rename_others, rename_may, names_reads}
-use Rattle.dm_disk_model.proofs.Naming.{given_rename, given_names_synced, given_leaves, absent_leaves, throughout_start, throughout_next}
+use Rattle.dm_disk_model.specs.File.{File, IsWritten, IsSynced}
+use Rattle.dm_disk_model.specs.Folder.{FileSteps}
+use Rattle.dm_disk_model.specs.Disk.{DiskState, History, Next, InArea, Stands, WriteStep, SyncStep, now, bytes_at, CreateStep, RemoveStep, RenameStep, SyncNamesStep}
+use Rattle.dm_disk_model.specs.Names.{IsSettled, NeverStands, LeavesNothing, LeavesNothingOr, LeavesJust, Throughout}
+use Rattle.dm_disk_model.proofs.Reading.{stepped_reads}
+use Rattle.dm_disk_model.proofs.Places.{in_folder, stands_from, create_reads, remove_reads, rename_reads, rename_others, rename_may, names_reads}
+use Rattle.dm_disk_model.proofs.Naming.{given_rename, given_names_synced, given_leaves, absent_leaves, just_published, throughout_start, throughout_next}
 use Rattle.dm_part.specs.Publish.{Moves}
 
 module _ (part target : Place) (one_area : target.area ≡ part.area) (differ : part.name ≢ target.name) where
@@ -55,3 +58,21 @@ reads_removed place (Err fault) old new step = tt
 pub reads_created : (place : Place) (result : Result (Unit {0}) DiskFault) (old new : DiskState) → CreateStep place result old new → OnOk result (bytes_at new place ≡ Some [])
 reads_created place (Ok done) old new step = create_reads place old new step
 reads_created place (Err fault) old new step = tt
+
+-- a file that a call wrote or synced stands
+step_stands : (place : Place) (step : File → File → Type 0) (old new : DiskState) → InArea place.area (FileSteps place.name step) old new → Stands new place
+step_stands place step old new taken = stands_from new place _ (stepped_reads place.name step _ _ (in_folder place.area (FileSteps place.name step) old new taken))
+
+pub stands_written : (place : Place) (at : ℕ) (bytes : List ℕ) (result : Result (Unit {0}) DiskFault) (old new : DiskState) → WriteStep place at bytes result old new → OnOk result (Stands new place)
+stands_written place at bytes (Ok done) old new step = step_stands place (IsWritten at bytes) old new step
+stands_written place at bytes (Err fault) old new step = tt
+
+pub stands_synced : (place : Place) (result : Result (Unit {0}) DiskFault) (old new : DiskState) → SyncStep place result old new → OnOk result (Stands new place)
+stands_synced place (Ok done) old new step = step_stands place IsSynced old new step
+stands_synced place (Err fault) old new step = tt
+
+-- after Ok each crash leaves the published file
+pub durable_done : (part target : Place) (file : List ℕ) (result : Result (Unit {0}) DiskFault) (old mid new : DiskState) → target.area ≡ part.area → IsSettled part file old
+    → RenameStep part target (Ok tt) old mid → SyncNamesStep target.area result mid new → OnOk result (LeavesJust target file new)
+durable_done part target file (Ok done) old mid new one_area settled renamed synced = just_published part target file old mid new one_area settled renamed synced
+durable_done part target file (Err fault) old mid new one_area settled renamed synced = tt

@@ -6,7 +6,7 @@ ghost use Rattle.dm_types.specs.Faults.{HasCause};
 ghost use Rattle.dm_disk_model.specs.Faults.{disk_kind};
 ghost use Rattle.dm_disk_model.specs.File.{overwrite};
 ghost use Rattle.dm_disk_model.specs.Disk.{now, Stands, bytes_at};
-ghost use Rattle.dm_disk_model.specs.Names.{KeepsOthers, IsSettled, NeverStands, LeavesNothingOr, Throughout};
+ghost use Rattle.dm_disk_model.specs.Names.{KeepsOthers, IsSettled, NeverStands, LeavesNothingOr, LeavesJust, Throughout};
 ghost use Rattle.dm_part.specs.Publish.{Moves};
 
 use dm_disk_model::{Disk, DiskFault, Place};
@@ -41,6 +41,7 @@ pub fn put<D: Disk>(disk: &mut D, part: &Place, at: u64, piece: &[u8]) -> Result
     requires { D.tells → Stands (now (D.history disk.old)) part.now }
     ensures written { D.tells → (file : List ℕ) → bytes_at (now (D.history disk.old)) part.now ≡ Some file
         → OnOk result (bytes_at (now (D.history disk.new)) part.now ≡ Some (overwrite file at piece.now)) }
+    ensures stands { D.tells → OnOk result (Stands (now (D.history disk.new)) part.now) }
     ensures keeps { D.tells → KeepsOthers part.now (D.history disk.old) (D.history disk.new) }
     ensures near { OnOk result (at + length piece.now < 2 ^ 63) }
     ensures cause { HasCause disk_kind (D.faults disk.old) (D.faults disk.new) result }
@@ -53,6 +54,7 @@ pub fn settle<D: Disk>(disk: &mut D, part: &Place) -> Result<(), DiskFault>
     requires { D.tells → Stands (now (D.history disk.old)) part.now }
     ensures settled { D.tells → (file : List ℕ) → bytes_at (now (D.history disk.old)) part.now ≡ Some file
         → OnOk result (IsSettled part.now file (now (D.history disk.new)) × (bytes_at (now (D.history disk.new)) part.now ≡ Some file)) }
+    ensures stands { D.tells → OnOk result (Stands (now (D.history disk.new)) part.now) }
     ensures keeps { D.tells → KeepsOthers part.now (D.history disk.old) (D.history disk.new) }
     ensures cause { HasCause disk_kind (D.faults disk.old) (D.faults disk.new) result }
 {
@@ -60,7 +62,7 @@ pub fn settle<D: Disk>(disk: &mut D, part: &Place) -> Result<(), DiskFault>
 }
 
 /// Gives the part its name, and makes the names durable. Until then no crash leaves the name with
-/// anything but the whole part.
+/// anything but the whole part, and after Ok each crash leaves it.
 pub fn publish<D: Disk>(disk: &mut D, part: &Place, target: &Place) -> Result<(), DiskFault>
     requires stands { D.tells → Stands (now (D.history disk.old)) part.now }
     requires one_area { D.tells → target.now.area ≡ part.now.area }
@@ -68,6 +70,8 @@ pub fn publish<D: Disk>(disk: &mut D, part: &Place, target: &Place) -> Result<()
         → Moves part.now target.now result (now (D.history disk.old)) (now (D.history disk.new)) }
     ensures whole { D.tells → (file : List ℕ) → IsSettled part.now file (now (D.history disk.old)) → NeverStands target.now (now (D.history disk.old))
         → Throughout (D.history disk.old) (D.history disk.new) (LeavesNothingOr target.now file) }
+    ensures durable { D.tells → (file : List ℕ) → IsSettled part.now file (now (D.history disk.old))
+        → OnOk result (LeavesJust target.now file (now (D.history disk.new))) }
     ensures cause { HasCause disk_kind (D.faults disk.old) (D.faults disk.new) result }
 {
     match disk.rename(part, target) {

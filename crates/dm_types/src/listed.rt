@@ -37,6 +37,14 @@ impl<T: Drop> Listed<T> {
         Listed { items }
     }
 
+    /// The list's vector, with no copy.
+    pub fn into_vec(self) -> Vec<T>
+        ensures { result.items ≡ self }
+    {
+        let Listed { items } = self;
+        items
+    }
+
     /// Adds a value at the end. Where memory is wanting the list stays, and the value is dropped.
     pub fn push(&mut self, value: T) -> Result<(), NoMemory>
         ensures ok { OnOk result (self.new ≡ self.old ++ value ∷ []) }

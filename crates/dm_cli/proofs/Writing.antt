@@ -1,0 +1,10 @@
+-- A text that is written in several pieces.
+use Rattle.std.proofs.Common.{◌≡◌, ℕ, ◌+◌, List, ◌++◌, take, drop, sym, ◌∙◌, ap, append_assoc}
+use Rattle.std.proofs.Math.Seq.{take-add}
+
+-- a piece from the front of what is left comes behind what was written
+pub wrote_more : (before text was now rest : List ℕ) (done count : ℕ) → rest ≡ drop done text → was ≡ before ++ take done text → now ≡ was ++ take count rest
+    → now ≡ before ++ take (done + count) text
+wrote_more before text was now rest done count left so_far more =
+    more ∙ ap (λ (w : List ℕ). w ++ take count rest) so_far ∙ append_assoc before (take done text) (take count rest)
+    ∙ ap (λ (r : List ℕ). before ++ (take done text ++ take count r)) left ∙ ap (λ (t : List ℕ). before ++ t) (sym (take-add done count text))

@@ -1,0 +1,28 @@
+use Rattle.std.proofs.Common.{◌≡◌, ℕ, ◌-◌, ◌<◌, [], length, None}
+use Rattle.dm_types.specs.Faults.{NoneFell}
+use Rattle.dm_disk_model.specs.Disk.{now, Stands}
+use Rattle.dm_disk_model.specs.Names.{KeepsOthers}
+use Rattle.dm_reply.specs.Content.{HasRead}
+use Rattle.dm_cli.specs.Copying.{CopiedSoFar}
+use Rattle.dm_cli.proofs.copying.copy_content.Given as goal
+
+abbrev pub invariant-loop-count : goal.invariant-loop-count
+invariant-loop-count g l =
+    let D = g.D.Disk in
+    let W = g.W.Wire in
+    record {
+      room : 0 < length l.buffer;
+      at : l.at ≡ l.reader.given;
+      wanted : l.reader.wanted ≡ l.wanted;
+      unbroken : l.reader.broke ≡ None;
+      stands : D.tells → Stands (now (D.history l.disk)) l.part;
+      copied : D.tells → W.tells → HasRead (W.told l.initial.wire).given l.initial.reader [] → CopiedSoFar (W.told l.wire) l.reader (now (D.history l.disk)) l.part l.at;
+      keeps : D.tells → KeepsOthers l.part (D.history l.initial.disk) (D.history l.disk);
+      sent : W.tells → (W.told l.wire).sent ≡ (W.told l.initial.wire).sent;
+      stays : W.asked l.wire ≡ W.asked l.initial.wire;
+      wire_later : NoneFell (W.faults l.initial.wire) (W.faults l.wire);
+      disk_later : NoneFell (D.faults l.initial.disk) (D.faults l.disk);
+    }
+
+abbrev pub decreases-loop-count : goal.decreases-loop-count
+decreases-loop-count g l = l.reader.wanted - l.reader.given

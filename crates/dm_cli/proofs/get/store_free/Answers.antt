@@ -1,0 +1,33 @@
+use Rattle.std.proofs.Common.{◌∙◌}
+use Rattle.dm_disk_model.specs.Names.{NeverStands}
+use Rattle.dm_disk_model.proofs.Keeping.{keeps_then, throughout_join, throughout_now}
+use Rattle.dm_cli.specs.Get.{NeverPartial}
+use Rattle.dm_cli.proofs.Publishing.{never_so_far}
+use Rattle.dm_cli.proofs.Storing.{never_partial, whole_or_nothing}
+use Rattle.dm_edge.specs.Wire.{stream_of}
+use Rattle.dm_cli.proofs.get.store_free.Goals as goal
+
+pub returns-in-Err-clause-partial : goal.returns-in-Err-clause-partial
+returns-in-Err-clause-partial g c tells_disk tells_wire read absent =
+    let history = g.D.Disk.history in
+    never_partial c.args.target.now (stream_of (g.W.Wire.told c.args.wire.now)) _ _
+    (never_so_far c.args.part.now c.args.target.now c.requires.apart (history c.args.disk.now) (history c.make.new.disk) (c.make.ensures.keeps tells_disk) absent)
+
+pub returns-in-Err-copy_content-clause-partial : goal.returns-in-Err-copy_content-clause-partial
+returns-in-Err-copy_content-clause-partial g c tells_disk tells_wire read absent =
+    let history = g.D.Disk.history in
+    never_partial c.args.target.now (stream_of (g.W.Wire.told c.copy_content.new.wire)) _ _
+    (never_so_far c.args.part.now c.args.target.now c.requires.apart (history c.args.disk.now) (history c.copy_content.new.disk)
+    (keeps_then c.args.part.now _ (history c.make.new.disk) _ (c.make.ensures.keeps tells_disk) (c.copy_content.ensures.keeps tells_disk)) absent)
+
+pub returns-in-Ok-copy_content-clause-partial : goal.returns-in-Ok-copy_content-clause-partial
+returns-in-Ok-copy_content-clause-partial g c tells_disk tells_wire read absent =
+    let history = g.D.Disk.history in
+    let stream = stream_of (g.W.Wire.told c.copy_content.new.wire) in
+    let never = never_so_far c.args.part.now c.args.target.now c.requires.apart (history c.args.disk.now) (history c.copy_content.new.disk)
+    (keeps_then c.args.part.now _ (history c.make.new.disk) _ (c.make.ensures.keeps tells_disk) (c.copy_content.ensures.keeps tells_disk)) absent in
+    let copied = c.in-Ok-copy_content.ensures.says tells_disk tells_wire read in
+    throughout_join (history c.args.disk.now) (history c.copy_content.new.disk) (history c.finish.new.disk) (NeverPartial c.args.target.now stream)
+    (never_partial c.args.target.now stream _ _ never)
+    (whole_or_nothing c.args.target.now stream copied.0 _ _ copied.1.whole
+    (c.finish.ensures.partial tells_disk copied.0 copied.1.written (throughout_now _ _ (NeverStands c.args.target.now) never)))

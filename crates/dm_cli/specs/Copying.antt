@@ -1,0 +1,62 @@
+-- The content of a reply, as it is written into the part.
+use Rattle.std.specs.Prelude.{◌≡◌, ℕ, ◌+◌, ◌<◌, ◌≤◌, List, ◌++◌, length, Option, Some, None, Result, Ok, Err}
+use Rattle.dm_types.specs.declared.kinds.DiskKind.{DiskKind}
+use Rattle.dm_edge.specs.declared.fault.WireFault.{WireFault}
+use Rattle.dm_edge.specs.Wire.{Told, stream_of}
+use Rattle.dm_disk_model.specs.declared.place.Place.{Place}
+use Rattle.dm_disk_model.specs.Disk.{DiskState, bytes_at}
+use Rattle.dm_reply.specs.Faults.{broke_kind}
+use Rattle.dm_reply.specs.Content.{Reading, HasRead}
+use Rattle.dm_reply.specs.Reply.{IsWhole, ContentBroke}
+use Rattle.dm_cli.specs.declared.copying.Landed.{Landed}
+use Rattle.dm_cli.specs.declared.copying.Landed.TheVariants.{More, End}
+use Rattle.dm_cli.specs.declared.copying.Stopped.{Stopped}
+use Rattle.dm_cli.specs.declared.copying.Stopped.TheVariants.{Broke, Disk}
+
+-- the fault of the wire that it shows, where it shows one
+abbrev pub stopped_wire : Stopped → Option WireFault
+stopped_wire (Broke broke) = broke_kind broke
+stopped_wire (Disk kind) = None
+
+-- the fault of the disk that it shows
+abbrev pub stopped_disk : Stopped → Option DiskKind
+stopped_disk (Broke broke) = None
+stopped_disk (Disk kind) = Some kind
+
+-- the piece was read and is in the part, behind the content so far
+pub record Lands (told : Told) (reading : Reading) (disk : DiskState) (part : Place) (content : List ℕ) (count : ℕ) : Type 0 where
+  pub piece : List ℕ
+  pub counts : length piece ≡ count
+  pub read : HasRead told.given reading (content ++ piece)
+  pub written : bytes_at disk part ≡ Some (content ++ piece)
+
+-- all was read and is in the part
+pub record IsCopied (told : Told) (disk : DiskState) (part : Place) (content : List ℕ) : Type 0 where
+  pub whole : IsWhole (stream_of told) content
+  pub written : bytes_at disk part ≡ Some content
+
+-- what each answer says of the content, the part and the stream
+abbrev pub LandedSays : Told → Reading → DiskState → Place → Result Landed Stopped → List ℕ → Type 0
+LandedSays told reading disk part (Ok (More count)) content = Lands told reading disk part content count
+LandedSays told reading disk part (Ok End) content = IsCopied told disk part content
+LandedSays told reading disk part (Err (Broke broke)) content = ContentBroke (stream_of told) content broke
+LandedSays told reading disk part (Err (Disk kind)) content = Unit {0}
+
+-- the reader moves on by what was written, and never past the end
+abbrev pub Moves : Reading → Reading → Result Landed Stopped → Type 0
+Moves old new (Ok (More count)) = (0 < count) × (new.given ≡ old.given + count) × (new.given ≤ old.wanted) × (new.wanted ≡ old.wanted) × (new.broke ≡ None)
+Moves old new (Ok End) = old.given ≡ old.wanted
+Moves old new (Err stopped) = Unit {0}
+
+-- the content so far was read, and the part holds it
+pub record CopiedSoFar (told : Told) (reading : Reading) (disk : DiskState) (part : Place) (at : ℕ) : Type 0 where
+  pub content : List ℕ
+  pub counts : at ≡ length content
+  pub read : HasRead told.given reading content
+  pub written : bytes_at disk part ≡ Some content
+
+-- what a whole copy says: the content of the reply is in the part, whole, or the stream had less
+abbrev pub CopySays : Told → Reading → DiskState → Place → Result (Unit {0}) Stopped → Type 0
+CopySays told reading disk part (Ok done) = (content : List ℕ) × IsCopied told disk part content × (length content ≡ reading.wanted)
+CopySays told reading disk part (Err (Broke broke)) = (content : List ℕ) × ContentBroke (stream_of told) content broke
+CopySays told reading disk part (Err (Disk kind)) = Unit {0}

@@ -1,0 +1,6 @@
+pub mod Copying
+pub mod Ending
+pub mod Get
+pub mod Print
+pub mod Run
+pub mod Steps

@@ -1,0 +1,96 @@
+// The content of a reply, written into the part piece by piece.
+ghost use Rattle.std.specs.Prelude.{◌≡◌, ◌<◌, ℕ, List, [], Some, None, length, IfOk, OnOk};
+ghost use Rattle.dm_types.specs.Faults.{HasCause};
+ghost use Rattle.dm_disk_model.specs.Disk.{now, Stands, bytes_at};
+ghost use Rattle.dm_disk_model.specs.Names.{KeepsOthers};
+ghost use Rattle.dm_reply.specs.Content.{HasRead};
+ghost use Rattle.dm_cli.specs.Copying.{LandedSays, Moves, CopySays, stopped_wire, stopped_disk};
+
+use dm_disk_model::{Disk, Place};
+use dm_edge::Wire;
+use dm_part::put;
+use dm_reply::{Broke, Got, ReplyReader};
+use dm_types::DiskKind;
+
+/// What became of the next piece.
+#[derive(Clone, Copy, Debug)]
+pub enum Landed {
+    /// So many bytes were written.
+    More(usize),
+    /// There are no more.
+    End,
+}
+
+/// Why the copying stopped.
+#[derive(Clone, Copy, Debug)]
+pub enum Stopped {
+    Broke(Broke),
+    Disk(DiskKind),
+}
+
+/// Receives the next piece of content and writes it into the part.
+fn land_next<D: Disk, W: Wire>(
+    disk: &mut D,
+    wire: &mut W,
+    reader: &mut ReplyReader,
+    part: &Place,
+    at: u64,
+    buffer: &mut [u8],
+) -> Result<Landed, Stopped>
+    requires room { 0 < length buffer.old }
+    requires unbroken { reader.old.broke ≡ None }
+    requires stands { D.tells → Stands (now (D.history disk.old)) part.now }
+    ensures says { D.tells → W.tells → (content : List ℕ) → HasRead (W.told wire.old).given reader.old content
+        → bytes_at (now (D.history disk.old)) part.now ≡ Some content → at ≡ length content
+        → LandedSays (W.told wire.new) reader.new (now (D.history disk.new)) part.now result content }
+    ensures moves { Moves reader.old reader.new result }
+    ensures stands { D.tells → IfOk result (λ _. Stands (now (D.history disk.new)) part.now) }
+    ensures keeps { D.tells → KeepsOthers part.now (D.history disk.old) (D.history disk.new) }
+    ensures sent { W.tells → (W.told wire.new).sent ≡ (W.told wire.old).sent }
+    ensures stays { W.asked wire.new ≡ W.asked wire.old }
+    ensures wire_cause { HasCause stopped_wire (W.faults wire.old) (W.faults wire.new) result }
+    ensures disk_cause { HasCause stopped_disk (D.faults disk.old) (D.faults disk.new) result }
+{
+    match reader.content(wire, buffer) {
+        Ok(Got::Bytes(count)) => match put(disk, part, at, &buffer[..count]) {
+            Ok(()) => Ok(Landed::More(count)),
+            Err(fault) => Err(Stopped::Disk(fault.0)),
+        },
+        Ok(Got::End) => Ok(Landed::End),
+        Err(broke) => Err(Stopped::Broke(broke)),
+    }
+}
+
+/// Writes the whole content into the part, which is empty. Each turn but the last writes at least
+/// one byte.
+pub fn copy_content<D: Disk, W: Wire>(
+    disk: &mut D,
+    wire: &mut W,
+    reader: &mut ReplyReader,
+    part: &Place,
+    wanted: u64,
+    buffer: &mut [u8],
+) -> Result<(), Stopped>
+    requires room { 0 < length buffer.old }
+    requires unread { reader.old.given ≡ 0 }
+    requires unbroken { reader.old.broke ≡ None }
+    requires wanted { reader.old.wanted ≡ wanted }
+    requires made { D.tells → bytes_at (now (D.history disk.old)) part.now ≡ Some [] }
+    ensures says { D.tells → W.tells → HasRead (W.told wire.old).given reader.old []
+        → CopySays (W.told wire.new) reader.old (now (D.history disk.new)) part.now result }
+    ensures stands { D.tells → OnOk result (Stands (now (D.history disk.new)) part.now) }
+    ensures keeps { D.tells → KeepsOthers part.now (D.history disk.old) (D.history disk.new) }
+    ensures sent { W.tells → (W.told wire.new).sent ≡ (W.told wire.old).sent }
+    ensures stays { W.asked wire.new ≡ W.asked wire.old }
+    ensures wire_cause { HasCause stopped_wire (W.faults wire.old) (W.faults wire.new) result }
+    ensures disk_cause { HasCause stopped_disk (D.faults disk.old) (D.faults disk.new) result }
+{
+    let mut at = 0;
+    loop {
+        match land_next(disk, wire, reader, part, at, buffer) {
+            Ok(Landed::More(count)) => at += count as u64,
+            Ok(Landed::End) => return Ok(()),
+            Err(stopped) => return Err(stopped),
+        }
+    }
+}

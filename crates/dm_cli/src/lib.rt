@@ -1,0 +1,12 @@
+//! The top call: a command's words go in, and what it did is in the disk, the printed texts and the status.
+#![tactic(auto)]
+
+mod copying;
+mod ending;
+mod get;
+mod printing;
+mod run;
+
+pub use ending::Ending;
+pub use printing::print;
+pub use run::{Ran, refused, run_words};

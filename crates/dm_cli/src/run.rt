@@ -1,0 +1,97 @@
+ghost use Rattle.std.specs.Prelude.{◌≡◌, ℕ, List, IfSome};
+ghost use Rattle.dm_types.specs.Faults.{NoneFell};
+ghost use Rattle.dm_disk_model.specs.Disk.{now};
+ghost use Rattle.dm_disk_model.specs.Names.{NeverStands, Throughout};
+ghost use Rattle.dm_words.specs.Command.{IsGet};
+ghost use Rattle.dm_cli.specs.Get.{file_place, NeverPartialOf};
+ghost use Rattle.dm_cli.specs.Run.{RunSays, Explains, Refused};
+ghost use Rattle.dm_cli.specs.Print.{PrintsEnding};
+
+use crate::Ending;
+use crate::get::get;
+use crate::printing::print;
+use dm_disk_model::Disk;
+use dm_edge::{Clock, Net, Sink};
+use dm_request::{AddressFault, read_address};
+use dm_types::Text;
+use dm_words::{BadWords, read_command};
+use std::alloc::Global;
+
+/// A run that is over: the status that the program ends with, and the disk that was handed in.
+#[derive(Debug, Drop)]
+pub struct Ran<D> {
+    pub status: u8,
+    pub disk: D,
+}
+
+/// Does what the words say.
+fn run<D: Disk, N: Net>(alloc: Global, words: &[Text], disk: &mut D, net: &mut N) -> Ending
+    ensures says { D.tells → N.tells
+        → RunSays words.now (now (D.history disk.old)) (now (D.history disk.new)) (D.faults disk.old) (D.faults disk.new)
+            (N.faults net.old) (N.faults net.new) (N.closed net.old) (N.closed net.new) result }
+    ensures partial { D.tells → N.tells → (name address : List ℕ) → IsGet words.now name address → NeverStands (file_place name) (now (D.history disk.old))
+        → Throughout (D.history disk.old) (D.history disk.new) (NeverPartialOf (file_place name) (N.closed net.old) (N.closed net.new)) }
+    ensures disk_later { NoneFell (D.faults disk.old) (D.faults disk.new) }
+    ensures net_later { NoneFell (N.faults net.old) (N.faults net.new) }
+{
+    let command = match read_command(words) {
+        Ok(command) => command,
+        Err(BadWords) => return Ending::BadWords,
+    };
+    match read_address(alloc, command.address) {
+        Ok(address) => get(alloc, disk, net, command.name, &address),
+        Err(AddressFault::NoMemory) => Ending::NoMemory,
+        Err(AddressFault::TooLong(_)) => Ending::BadAddress,
+        Err(AddressFault::NotUrl) => Ending::BadAddress,
+        Err(AddressFault::NotHttp) => Ending::BadAddress,
+    }
+}
+
+/// One run of the program: the words are a command, the disk is handed back, and what is printed
+/// and the status say how it ended.
+pub fn run_words<D: Disk, N: Net, C: Clock, S: Sink>(
+    alloc: Global,
+    words: &[Text],
+    disk: D,
+    net: &mut N,
+    clock: &mut C,
+    out: &mut S,
+    errs: &mut S,
+) -> Ran<D>
+    // How it ended is one ending, which tells what was done and what was printed.
+    ensures says { Explains (λ ending.
+        (D.tells → N.tells → RunSays words.now (now (D.history disk)) (now (D.history result.disk)) (D.faults disk) (D.faults result.disk)
+        (N.faults net.old) (N.faults net.new) (N.closed net.old) (N.closed net.new) ending)
+        × PrintsEnding S.tells (S.written out.old) (S.written out.new) (S.written errs.old) (S.written errs.new)
+        (S.faults out.old) (S.faults out.new) (S.faults errs.old) (S.faults errs.new) ending result.status) }
+
+    // Whenever a crash comes, the name has nothing or the whole content of the one connection's reply.
+    ensures partial { D.tells → N.tells → (name address : List ℕ) → IsGet words.now name address → NeverStands (file_place name) (now (D.history disk))
+        → Throughout (D.history disk) (D.history result.disk) (NeverPartialOf (file_place name) (N.closed net.old) (N.closed net.new)) }
+    ensures disk_later { NoneFell (D.faults disk) (D.faults result.disk) }
+    ensures net_later { NoneFell (N.faults net.old) (N.faults net.new) }
+{
+    let mut disk = disk;
+    let _moment = clock.now();
+    let ending = run(alloc, words, &mut disk, net);
+    let status = print(&ending, out, errs);
+    Ran { status, disk }
+}
+
+/// Whether the words are refused before any disk is looked at, and how: they are no command, or
+/// their address is refused. `None` where they are a command, or memory was wanting to read it.
+pub fn refused(alloc: Global, words: &[Text]) -> Option<Ending>
+    ensures { IfSome result (Refused words.now) }
+{
+    let command = match read_command(words) {
+        Ok(command) => command,
+        Err(BadWords) => return Some(Ending::BadWords),
+    };
+    match read_address(alloc, command.address) {
+        Ok(_) => None,
+        Err(AddressFault::NoMemory) => None,
+        Err(AddressFault::TooLong(_)) => Some(Ending::BadAddress),
+        Err(AddressFault::NotUrl) => Some(Ending::BadAddress),
+        Err(AddressFault::NotHttp) => Some(Ending::BadAddress),
+    }
+}

@@ -1,0 +1,2 @@
+mod Received
+mod Scripts

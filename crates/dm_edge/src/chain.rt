@@ -1,0 +1,70 @@
+ghost use Rattle.std.specs.Prelude.{◌≡◌, ◌+◌, ◌<◌, [], ◌∷◌, ◌++◌, length, IfOk, IfErr, slice_get, Some};
+
+use crate::Exchange;
+use std::marker::Model;
+
+/// Exchanges that are over. The newest is at hand, and contracts see the oldest first.
+#[cycle(chain)]
+#[derive(Debug, Drop)]
+pub(crate) struct Chain {
+    top: Link,
+}
+
+#[cycle(chain)]
+#[derive(Debug, Drop)]
+enum Link {
+    End,
+    More(Exchange, Box<Chain>),
+}
+
+impl Model for Chain {
+    ghost use Rattle.std.specs.Prelude.{List, length};
+    ghost use Rattle.dm_edge.specs.declared.script.Exchange.{Exchange};
+
+    ghost Value = { List Exchange };
+
+    ghost use Rattle.dm_edge.specs.Chain.{linked};
+
+    ghost view = { λ c. linked c.top };
+
+    ghost size = { length };
+
+    ghost use Rattle.std.proofs.Common.{arith, length-append};
+
+    ghost size_decreases = { λ a h. Prim.grind (arith, length-append) };
+}
+
+impl Chain {
+    /// No exchanges.
+    pub(crate) fn new() -> Chain
+        ensures { result ≡ [] }
+    {
+        Chain { top: Link::End }
+    }
+
+    /// Adds an exchange as the newest. The spare box takes the older ones, so that no memory is
+    /// wanted.
+    pub(crate) fn push(&mut self, newest: Exchange, mut spare: Box<Chain>)
+        ensures { self.new ≡ self.old ++ newest ∷ [] }
+    {
+        let older = std::mem::replace(&mut self.top, Link::End);
+        *spare = Chain { top: older };
+        self.top = Link::More(newest, spare);
+    }
+
+    /// The exchange at a place, counted from 0 from the oldest on, or how far past the newest the
+    /// place lies.
+    pub(crate) fn at(&self, place: u64) -> Result<&Exchange, u64>
+        ensures found { IfOk result (λ exchange. slice_get self.now place ≡ Some exchange.now) }
+        ensures past { IfErr result (λ more. place ≡ length self.now + more) }
+    {
+        match &self.top {
+            Link::End => Err(place),
+            Link::More(newest, older) => match older.at(place) {
+                Ok(exchange) => Ok(exchange),
+                Err(0) => Ok(newest),
+                Err(more) => Err(more - 1),
+            },
+        }
+    }
+}

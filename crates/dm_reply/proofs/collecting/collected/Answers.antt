@@ -1,0 +1,15 @@
+use Rattle.std.proofs.Common.{subst, sym}
+use Rattle.dm_reply.specs.Collected.{in_content}
+use Rattle.dm_reply.specs.Content.{HasRead}
+use Rattle.dm_reply.proofs.collecting.collected.Goals as goal
+
+pub loop-content-preserved : goal.loop-content-preserved
+loop-content-preserved g c tells fresh =
+    let says = rw c.in-Ok-Bytes.field-0-is at c.in-Ok-Bytes.ensures.says in
+    subst (HasRead (g.W.Wire.told c.content.new.wire).given c.content.new.self) (sym c.in-Ok-extend_from_slice.ensures.items)
+    (says tells c.loop-content.content.items (c.loop-content.invariant tells fresh))
+
+pub returns-in-Err-content-clause-broke : goal.returns-in-Err-content-clause-broke
+returns-in-Err-content-clause-broke g c tells fresh =
+    in_content c.loop-content.content.items
+    (c.in-Err-content.ensures.says tells c.loop-content.content.items (c.loop-content.invariant tells fresh)).0

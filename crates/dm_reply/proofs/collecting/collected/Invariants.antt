@@ -1,0 +1,10 @@
+use Rattle.std.proofs.Common.{◌≡◌, ◌-◌, []}
+use Rattle.dm_reply.specs.Content.{HasRead}
+use Rattle.dm_reply.proofs.collecting.collected.Given as goal
+
+abbrev pub invariant-loop-content : goal.invariant-loop-content
+invariant-loop-content g l =
+    g.W.Wire.tells → (g.W.Wire.told l.fn.wire).given ≡ [] → HasRead (g.W.Wire.told l.wire).given l.reader l.content.items
+
+abbrev pub decreases-loop-content : goal.decreases-loop-content
+decreases-loop-content g l = l.reader.wanted - l.reader.given

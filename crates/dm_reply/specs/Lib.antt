@@ -1,0 +1,11 @@
+pub mod Collected
+pub mod Content
+pub mod Faults
+pub mod Fields
+pub mod Head
+pub mod Lines
+pub mod Look
+pub mod Reader
+pub mod Received
+pub mod Reply
+pub mod Values

@@ -1,0 +1,6 @@
+pub mod ListTests
+pub mod HostBytes
+pub mod Ports
+pub mod Cuts
+pub mod Texts
+pub mod Places

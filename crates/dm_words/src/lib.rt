@@ -1,0 +1,17 @@
+//! The words of the command line, the lines that `dm` prints, and the names of files.
+#![tactic(auto)]
+
+mod command;
+mod name;
+mod part;
+mod printed;
+
+pub use command::{BadWords, Get, read_command};
+pub use name::{is_name, same_folded};
+pub use part::part_name;
+pub use printed::{
+    bad_address_line, bad_words_line, complete_line, disk_line, interrupted_line, no_memory_line,
+};
+
+#[cfg(test)]
+mod tests;
