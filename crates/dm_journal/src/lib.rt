@@ -1,0 +1,9 @@
+//! The journal: a list of bodies in one file, of which a crash leaves all that were acknowledged.
+#![tactic(auto)]
+
+mod cell;
+mod fault;
+mod text;
+
+pub use fault::TextFault;
+pub use text::{Bodies, read_journal};
