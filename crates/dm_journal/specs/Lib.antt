@@ -1,3 +1,4 @@
+pub mod AtRest
 pub mod Cell
 pub mod Outcome
 pub mod Text
