@@ -14,7 +14,7 @@ use Rattle.dm_journal.specs.AtRest.{journal_name, AtRest, HasJournal, WithOrWith
 use Rattle.dm_journal.proofs.Texts.{cells_push, AllFit-push}
 
 -- a write where one part ends
-overwrite_at_seam : (a r p : List ℕ) → overwrite (a ++ r) (length a) p ≡ (a ++ p) ++ drop (length p) r
+pub overwrite_at_seam : (a r p : List ℕ) → overwrite (a ++ r) (length a) p ≡ (a ++ p) ++ drop (length p) r
 overwrite_at_seam a r p =
     let zeros : List ℕ = replicate (length a - length (a ++ r)) 0 in
     ap (λ (xs : List ℕ). (take (length a) xs ++ p) ++ drop (length a + length p) (a ++ r)) (append_assoc a r zeros)
@@ -30,7 +30,7 @@ begins a b le same =
     sym (take-append-drop (length a) b) ∙ ap (λ (xs : List ℕ). xs ++ drop (length a) b) first
 
 -- what stands before the place of the write: the whole cells and the closed gate
-abbrev shut_front : List (List ℕ) → ℕ → List ℕ
+abbrev pub shut_front : List (List ℕ) → ℕ → List ℕ
 shut_front bodies gate = front bodies ++ gate ∷ []
 
 -- the cells and the closed gate are durable, whatever stands behind
@@ -42,7 +42,7 @@ pub record KeepsFront (bodies : List (List ℕ)) (file : File) : Type 0 where
   pub clean : (i : ℕ) → i < length (shut_front bodies gate) → IsClean file i
 
 -- so each crash leaves the bodies
-front_left : (bodies : List (List ℕ)) (file : File) (bytes : List ℕ) → KeepsFront bodies file → FileLeaves file bytes → IsJournalText bodies bytes
+pub front_left : (bodies : List (List ℕ)) (file : File) (bytes : List ℕ) → KeepsFront bodies file → FileLeaves file bytes → IsJournalText bodies bytes
 front_left bodies file bytes keeps left =
     let whole : List ℕ = shut_front bodies keeps.gate in
     let more = length-append (front bodies) (keeps.gate ∷ []) in
@@ -52,7 +52,7 @@ front_left bodies file bytes keeps left =
     record { sizes = keeps.sizes; gate = keeps.gate; rest = drop (length whole) bytes; shut = keeps.shut; is = is ∙ append_assoc (front bodies) (keeps.gate ∷ []) (drop (length whole) bytes) }
 
 -- a durable journal keeps its front
-front_settled : (bodies : List (List ℕ)) (bytes : List ℕ) → IsJournalText bodies bytes → KeepsFront bodies (settled_file bytes)
+pub front_settled : (bodies : List (List ℕ)) (bytes : List ℕ) → IsJournalText bodies bytes → KeepsFront bodies (settled_file bytes)
 front_settled bodies bytes text =
     let whole : List ℕ = shut_front bodies text.gate in
     let is : bytes ≡ whole ++ text.rest = text.is ∙ sym (append_assoc (front bodies) (text.gate ∷ []) text.rest) in
@@ -67,7 +67,7 @@ front_settled bodies bytes text =
     }
 
 -- a write behind the gate, also one that was only begun, leaves the front
-front_torn : (bodies : List (List ℕ)) (at count : ℕ) (old new : File) → at ≡ length (front bodies) + 1 → KeepsFront bodies old → IsTorn at count old new → KeepsFront bodies new
+pub front_torn : (bodies : List (List ℕ)) (at count : ℕ) (old new : File) → at ≡ length (front bodies) + 1 → KeepsFront bodies old → IsTorn at count old new → KeepsFront bodies new
 front_torn bodies at count old new is keeps torn =
     let more = length-append (front bodies) (keeps.gate ∷ []) in
     record {
@@ -83,7 +83,7 @@ front_torn bodies at count old new is keeps torn =
           };
     }
 
-written_is_torn : (at : ℕ) (piece : List ℕ) (old new : File) → IsWritten at piece old new → IsTorn at (length piece) old new
+pub written_is_torn : (at : ℕ) (piece : List ℕ) (old new : File) → IsWritten at piece old new → IsTorn at (length piece) old new
 written_is_torn at piece old new written = record {
   bytes = subst (λ (xs : List ℕ). SameOutside at (at + length piece) old.bytes xs) (sym written.bytes) (overwrite_outside old.bytes at piece);
   synced = written.synced;
@@ -99,7 +99,7 @@ opening_shut : (bodies : List (List ℕ)) (body : List ℕ) (gate : ℕ) (rest b
 opening_shut bodies body gate rest bytes sizes shut is = record { sizes = sizes; gate = gate; rest = (in_four (length body) ++ body) ++ 0 ∷ rest; shut = shut; is = is }
 
 -- an open one makes it a journal with it
-opening_open : (bodies : List (List ℕ)) (body : List ℕ) (rest bytes : List ℕ) → AllFit bodies → FitsCell body → bytes ≡ opening bodies body 1 rest → IsJournalText (bodies ++ body ∷ []) bytes
+pub opening_open : (bodies : List (List ℕ)) (body : List ℕ) (rest bytes : List ℕ) → AllFit bodies → FitsCell body → bytes ≡ opening bodies body 1 rest → IsJournalText (bodies ++ body ∷ []) bytes
 opening_open bodies body rest bytes sizes fits is =
     let all : front (bodies ++ body ∷ []) ≡ front bodies ++ cell body = ap (λ (xs : List ℕ). header ++ xs) (cells_push bodies body) in
     record {
@@ -146,7 +146,7 @@ one_byte a r g bytes long same =
     behind (suc k) x some = refl
 
 -- what a crash leaves of a durable opening whose gate was written since
-gate_left : (bodies : List (List ℕ)) (body : List ℕ) (gate at : ℕ) (rest : List ℕ) (new : File) (bytes : List ℕ) → AllFit bodies → FitsCell body → at ≡ length (front bodies)
+pub gate_left : (bodies : List (List ℕ)) (body : List ℕ) (gate at : ℕ) (rest : List ℕ) (new : File) (bytes : List ℕ) → AllFit bodies → FitsCell body → at ≡ length (front bodies)
     → IsTorn at 1 (settled_file (opening bodies body gate rest)) new → FileLeaves new bytes → IsJournalText bodies bytes ⊎ IsJournalText (bodies ++ body ∷ []) bytes
 gate_left bodies body gate at rest new bytes sizes fits is torn left =
     let a : List ℕ = front bodies in

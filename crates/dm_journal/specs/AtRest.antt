@@ -5,7 +5,7 @@ use Rattle.dm_disk_model.specs.declared.place.Place.{Place}
 use Rattle.dm_disk_model.specs.Firm.{HasFile}
 use Rattle.dm_disk_model.specs.Names.{settled_file}
 use Rattle.dm_disk_model.specs.Disk.{DiskState, Image, bytes_at}
-use Rattle.dm_journal.specs.Text.{IsJournalText, front}
+use Rattle.dm_journal.specs.Text.{IsJournalText, front, in_four}
 
 abbrev pub journal_name : List ℕ
 journal_name = codes "journal"
@@ -30,3 +30,7 @@ pub record HasJournal (bodies : List (List ℕ)) (image : Image) : Type 0 where
 -- with the body at the end or without it
 abbrev pub WithOrWithout : List (List ℕ) → List ℕ → Image → Type 0
 WithOrWithout bodies body image = HasJournal bodies image ⊎ HasJournal (bodies ++ body ∷ []) image
+
+-- what is written behind a closed gate: the length, the body, and the next gate, closed
+abbrev pub cell_tail : List ℕ → List ℕ
+cell_tail body = (in_four (length body) ++ body) ++ 0 ∷ []
