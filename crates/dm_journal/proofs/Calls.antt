@@ -52,6 +52,14 @@ opened_leaves bodies body disk sizes fits opened image left =
     (λ (with' : IsJournalText (bodies ++ body ∷ []) found.bytes). inr (record { bytes = found.bytes; found = found.is; text = with' }))
     (gate_left bodies body opened.gate (length (front bodies)) opened.rest opened.file found.bytes sizes fits refl opened.torn found.left)
 
+-- the calls are on the journal's place
+pub write_home : (place : Place) (at : ℕ) (piece : List ℕ) (result : Result (Unit {0}) DiskFault) (old new : History) → place ≡ journal_place
+    → Next old new (WriteStep place at piece result) → Next old new (WriteStep journal_place at piece result)
+write_home place at piece result old new home next = subst (λ (p : Place). Next old new (WriteStep p at piece result)) home next
+
+pub sync_home : (place : Place) (result : Result (Unit {0}) DiskFault) (old new : History) → place ≡ journal_place → Next old new (SyncStep place result) → Next old new (SyncStep journal_place result)
+sync_home place result old new home next = subst (λ (p : Place). Next old new (SyncStep p result)) home next
+
 -- what a write does to a file that stands
 written : (disk new : DiskState) (file : File) (at : ℕ) (piece : List ℕ) → HasFile disk.state journal_name file → WriteStep journal_place at piece (Ok tt) disk new
     → Stepped new.state journal_name (IsWritten at piece) file

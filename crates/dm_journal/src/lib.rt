@@ -3,6 +3,7 @@
 
 mod cell;
 mod fault;
+mod opening;
 mod text;
 
 pub use fault::TextFault;
