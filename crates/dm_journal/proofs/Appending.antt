@@ -25,8 +25,8 @@ overwrite_at_seam a r p =
 begins : (a b : List ℕ) → length a ≤ length b → ((i : ℕ) → i < length a → get_or b i 0 ≡ get_or a i 0) → b ≡ a ++ drop (length a) b
 begins a b le same =
     let first : take (length a) b ≡ a =
-        ext_get_or 0 (take (length a) b) a (length-take-le (length a) b le)
-        (λ i lt. let low : i < length a = let long = length-take-le (length a) b le in omega (arith, lt, long) in get_or-take (length a) b i 0 low ∙ same i low) in
+    ext_get_or 0 (take (length a) b) a (length-take-le (length a) b le)
+    (λ i lt. let low : i < length a = let long = length-take-le (length a) b le in omega (arith, lt, long) in get_or-take (length a) b i 0 low ∙ same i low) in
     sym (take-append-drop (length a) b) ∙ ap (λ (xs : List ℕ). xs ++ drop (length a) b) first
 
 -- what stands before the place of the write: the whole cells and the closed gate
@@ -78,8 +78,8 @@ front_torn bodies at count old new is keeps torn =
       clean = λ i lt.
           let was = keeps.clean i lt in
           record {
-              below = let below = was.below in let synced = torn.synced in omega (arith, below, synced);
-              untouched = subst (λ (ranges : List (ℕ × ℕ)). IsUntouched ranges i) (sym torn.touched) (inl (omega (arith, is, more, lt)), was.untouched);
+            below = let below = was.below in let synced = torn.synced in omega (arith, below, synced);
+            untouched = subst (λ (ranges : List (ℕ × ℕ)). IsUntouched ranges i) (sym torn.touched) (inl (omega (arith, is, more, lt)), was.untouched);
           };
     }
 
@@ -127,19 +127,19 @@ one_byte a r g bytes long same =
     let total_new = length-append a (x ∷ r) in
     ext_get_or 0 bytes (a ++ x ∷ r) (omega (arith, long, total, total_new))
     (λ i lt.
-        let within : i < length (a ++ g ∷ r) = omega (arith, long, lt) in
-        ⊎_elim
-        (λ (here : i ≡ length a). ap (λ (k : ℕ). get_or bytes k 0) here ∙ sym (get_or_at a x r 0 i (sym here)))
-        (λ (beside : (i < length a) ⊎ (length a < i)).
-            ⊎_elim
-            (λ (low : i < length a). same i (inl low) within ∙ get_or_append_left a (g ∷ r) 0 i low ∙ sym (get_or_append_left a (x ∷ r) 0 i low))
-            (λ (high : length a < i).
-                same i (inr (omega (arith, high))) within
-                ∙ get_or-append_right a (g ∷ r) (length a) i 0 refl (omega (arith, high))
-                ∙ behind (i - length a) x (omega (arith, high))
-                ∙ sym (get_or-append_right a (x ∷ r) (length a) i 0 refl (omega (arith, high))))
-            beside)
-        (cases_order i (length a)))
+    let within : i < length (a ++ g ∷ r) = omega (arith, long, lt) in
+    ⊎_elim
+    (λ (here : i ≡ length a). ap (λ (k : ℕ). get_or bytes k 0) here ∙ sym (get_or_at a x r 0 i (sym here)))
+    (λ (beside : (i < length a) ⊎ (length a < i)).
+    ⊎_elim
+    (λ (low : i < length a). same i (inl low) within ∙ get_or_append_left a (g ∷ r) 0 i low ∙ sym (get_or_append_left a (x ∷ r) 0 i low))
+    (λ (high : length a < i).
+    same i (inr (omega (arith, high))) within
+    ∙ get_or-append_right a (g ∷ r) (length a) i 0 refl (omega (arith, high))
+    ∙ behind (i - length a) x (omega (arith, high))
+    ∙ sym (get_or-append_right a (x ∷ r) (length a) i 0 refl (omega (arith, high))))
+    beside)
+    (cases_order i (length a)))
   where
     behind : (k x : ℕ) → 0 < k → get_or (g ∷ r) k 0 ≡ get_or (x ∷ r) k 0
     behind zero x some = absurd (omega arith)
@@ -153,13 +153,13 @@ gate_left bodies body gate at rest new bytes sizes fits is torn left =
     let r : List ℕ = (in_four (length body) ++ body) ++ 0 ∷ rest in
     let total = length-append a (gate ∷ r) in
     let long : length bytes ≡ length (a ++ gate ∷ r) =
-        let least = left.no_shorter in let most = left.no_longer in let synced = torn.synced in let longer = torn.bytes.no_longer in omega (arith, least, most, synced, longer, total, is) in
+    let least = left.no_shorter in let most = left.no_longer in let synced = torn.synced in let longer = torn.bytes.no_longer in omega (arith, least, most, synced, longer, total, is) in
     opening_either bodies body (get_or bytes (length a) 0) rest bytes sizes fits
     (one_byte a r gate bytes long
-        (λ i beside within.
-            let apart : (i < at) ⊎ (at + 1 ≤ i) = ⊎_elim (λ (low : i < length a). inl (omega (arith, low, is))) (λ (high : length a + 1 ≤ i). inr (omega (arith, high, is))) beside in
-            left.clean i (record {
-                below = let synced = torn.synced in omega (arith, synced, within);
-                untouched = subst (λ (ranges : List (ℕ × ℕ)). IsUntouched ranges i) (sym torn.touched) (apart, tt);
-            })
-            ∙ torn.bytes.others i apart))
+    (λ i beside within.
+    let apart : (i < at) ⊎ (at + 1 ≤ i) = ⊎_elim (λ (low : i < length a). inl (omega (arith, low, is))) (λ (high : length a + 1 ≤ i). inr (omega (arith, high, is))) beside in
+    left.clean i (record {
+      below = let synced = torn.synced in omega (arith, synced, within);
+      untouched = subst (λ (ranges : List (ℕ × ℕ)). IsUntouched ranges i) (sym torn.touched) (apart, tt);
+    })
+    ∙ torn.bytes.others i apart))

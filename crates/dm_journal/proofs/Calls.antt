@@ -132,7 +132,7 @@ pub keeps_then : (first middle last : History) → KeepsFiles first middle → K
 keeps_then first middle last before after =
     joined first middle last (λ disk. disk.files ≡ (now first).files) before
     (weaker middle last (λ disk. disk.files ≡ (now middle).files) (λ disk. disk.files ≡ (now first).files)
-        (λ disk same. same ∙ at_end first middle (λ d. d.files ≡ (now first).files) before) after)
+    (λ disk same. same ∙ at_end first middle (λ d. d.files ≡ (now first).files) before) after)
 
 -- one body that is appended to these, from a start on
 module _ (bodies : List (List ℕ)) (body : List ℕ) (start : History) (gate : ℕ) (fits : FitsCell body) where
@@ -181,14 +181,14 @@ module _ (bodies : List (List ℕ)) (body : List ℕ) (start : History) (gate : 
       let was : rest.bytes ≡ a ++ rest.text.rest = rest.text.is ∙ sym (append_assoc (front bodies) (rest.text.gate ∷ []) rest.text.rest) in
       let behind : List ℕ = drop (length piece) rest.text.rest in
       let bytes : moved.after.bytes ≡ opening bodies body rest.text.gate behind =
-          moved.stepped.bytes
-          ∙ ap (λ (xs : List ℕ). overwrite xs (gate + 1) piece) was
-          ∙ ap (λ (n : ℕ). overwrite (a ++ rest.text.rest) n piece) at
-          ∙ overwrite_at_seam a rest.text.rest piece
-          ∙ ap (λ (xs : List ℕ). (a ++ xs) ++ behind) is
-          ∙ append_assoc a (cell_tail body) behind
-          ∙ append_assoc (front bodies) (rest.text.gate ∷ []) (cell_tail body ++ behind)
-          ∙ ap (λ (xs : List ℕ). front bodies ++ rest.text.gate ∷ xs) (append_assoc (in_four (length body) ++ body) (0 ∷ []) behind) in
+      moved.stepped.bytes
+      ∙ ap (λ (xs : List ℕ). overwrite xs (gate + 1) piece) was
+      ∙ ap (λ (n : ℕ). overwrite (a ++ rest.text.rest) n piece) at
+      ∙ overwrite_at_seam a rest.text.rest piece
+      ∙ ap (λ (xs : List ℕ). (a ++ xs) ++ behind) is
+      ∙ append_assoc a (cell_tail body) behind
+      ∙ append_assoc (front bodies) (rest.text.gate ∷ []) (cell_tail body ++ behind)
+      ∙ ap (λ (xs : List ℕ). front bodies ++ rest.text.gate ∷ xs) (append_assoc (in_four (length body) ++ body) (0 ∷ []) behind) in
       record {
         so_far = over_call start new Good (WriteStep journal_place (gate + 1) piece (Ok tt)) next (start_good rest) (kept_leaves bodies body (now new) kept);
         kept = kept;
@@ -208,7 +208,7 @@ module _ (bodies : List (List ℕ)) (body : List ℕ) (start : History) (gate : 
   settle_done old new filled next =
       let has = synced (now old) (now new) (opening bodies body filled.shut filled.rest) filled.reads next.stepped in
       let text : IsJournalText bodies (opening bodies body filled.shut filled.rest) =
-          record { sizes = filled.kept.keeps.sizes; gate = filled.shut; rest = (in_four (length body) ++ body) ++ 0 ∷ filled.rest; shut = filled.is_shut; is = refl } in
+      record { sizes = filled.kept.keeps.sizes; gate = filled.shut; rest = (in_four (length body) ++ body) ++ 0 ∷ filled.rest; shut = filled.is_shut; is = refl } in
       let kept : Kept bodies (now new) = record { file = settled_file (opening bodies body filled.shut filled.rest); has = has; keeps = front_settled bodies (opening bodies body filled.shut filled.rest) text } in
       record {
         so_far = joined start old new Good filled.so_far
@@ -224,8 +224,8 @@ module _ (bodies : List (List ℕ)) (body : List ℕ) (start : History) (gate : 
       let before = at_end start old Good ready.so_far in
       joined start old new Good ready.so_far
       (over_call old new Good (WriteStep journal_place (length (front bodies)) (1 ∷ []) result) next before
-          (⊎_elim (opened_leaves bodies body (now new) ready.sizes fits) (λ same. subst Good (sym same) before)
-              (opened_write bodies body ready.shut ready.rest result (now old) (now new) ready.has next.stepped)))
+      (⊎_elim (opened_leaves bodies body (now new) ready.sizes fits) (λ same. subst Good (sym same) before)
+      (opened_write bodies body ready.shut ready.rest result (now old) (now new) ready.has next.stepped)))
 
   pub open_failed : (fault : DiskFault) (old new : History) → gate ≡ length (front bodies) → Ready old → Next old new (WriteStep journal_place gate (1 ∷ []) (Err fault)) → LeavesOnly start new (WithOrWithout bodies body)
   open_failed fault old new at ready next =
@@ -238,7 +238,7 @@ module _ (bodies : List (List ℕ)) (body : List ℕ) (start : History) (gate : 
       let moved = written (now old) (now new) was (length (front bodies)) (1 ∷ []) ready.has here.stepped in
       let r : List ℕ = (in_four (length body) ++ body) ++ 0 ∷ ready.rest in
       let bytes : moved.after.bytes ≡ opening bodies body 1 ready.rest =
-          moved.stepped.bytes ∙ overwrite_at_seam (front bodies) (ready.shut ∷ r) (1 ∷ []) ∙ append_assoc (front bodies) (1 ∷ []) r in
+      moved.stepped.bytes ∙ overwrite_at_seam (front bodies) (ready.shut ∷ r) (1 ∷ []) ∙ append_assoc (front bodies) (1 ∷ []) r in
       record {
         so_far = opened_good (Ok tt) old new ready here;
         sizes = ready.sizes;
@@ -267,10 +267,10 @@ module _ (bodies : List (List ℕ)) (body : List ℕ) (start : History) (gate : 
         so_far = joined start old new Good opened.so_far
             (over_call old new Good (SyncStep journal_place (Ok tt)) next (at_end start old Good opened.so_far) (last_leaves (now new) kept));
         rest = record {
-            bytes = bytes;
-            file = has;
-            text = text;
-            at = let long = ap length all in let parts = length-append (front bodies) (cell body) in let one = length-cell body in omega (arith, long, parts, one, at);
+          bytes = bytes;
+          file = has;
+          text = text;
+          at = let long = ap length all in let parts = length-append (front bodies) (cell body) in let one = length-cell body in omega (arith, long, parts, one, at);
         };
       }
     where

@@ -3,8 +3,10 @@
 
 mod cell;
 mod fault;
+mod journal;
 mod opening;
 mod text;
 
 pub use fault::TextFault;
+pub use journal::Journal;
 pub use text::{Bodies, read_journal};

@@ -10,7 +10,12 @@ use dm_disk_model::{Disk, DiskFault, Place};
 
 /// Writes a cell behind the closed gate, makes it durable, opens the gate, and makes that durable.
 /// Until the last step a crash leaves the bodies before it, with the new one or without.
-pub(crate) fn write_cell<D: Disk>(disk: &mut D, place: &Place, gate: u64, tail: &[u8]) -> Result<(), DiskFault>
+pub(crate) fn write_cell<D: Disk>(
+    disk: &mut D,
+    place: &Place,
+    gate: u64,
+    tail: &[u8],
+) -> Result<(), DiskFault>
     requires place { place.now ≡ journal_place }
     requires near { gate < 2 ^ 63 }
     requires stands { D.tells → Stands (now (D.history disk.old)) journal_place }
