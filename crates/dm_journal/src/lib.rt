@@ -10,3 +10,6 @@ mod text;
 pub use fault::TextFault;
 pub use journal::Journal;
 pub use text::{Bodies, read_journal};
+
+#[cfg(test)]
+mod tests;
