@@ -8,11 +8,12 @@ use Rattle.dm_disk_model.specs.Folder.{Folder, Names, FileSteps, names_of, after
 use Rattle.dm_disk_model.specs.Firm.{HasFile, LeftOf}
 use Rattle.dm_disk_model.specs.Names.{settled_file, Throughout}
 use Rattle.dm_disk_model.specs.Moments.{LeavesOnly, KeepsFiles}
-use Rattle.dm_disk_model.specs.Disk.{DiskState, Image, History, Next, now, MayLeave, Stands, WriteStep, SyncStep}
+use Rattle.dm_disk_model.specs.Disk.{DiskState, Image, History, Next, now, MayLeave, Stands, WriteStep, SyncStep, bytes_at}
+use Rattle.dm_disk_model.proofs.Places.{write_reads, sync_reads}
 use Rattle.dm_disk_model.proofs.FirmNames.{steps, has_left, Stepped}
 use Rattle.dm_disk_model.proofs.Reaching.{over_call, joined, weaker, at_end}
 use Rattle.dm_journal.specs.Text.{header, FitsCell, in_four, cell, cells, AllFit, front, IsJournalText}
-use Rattle.dm_journal.specs.AtRest.{journal_name, journal_place, AtRest, HasJournal, WithOrWithout, cell_tail}
+use Rattle.dm_journal.specs.AtRest.{journal_name, journal_place, AtRest, HasJournal, ReadsJournal, WithOrWithout, cell_tail}
 use Rattle.dm_journal.proofs.Texts.{cells_push, AllFit-push, length-cell}
 use Rattle.dm_journal.proofs.Appending.{KeepsFront, front_left, front_settled, front_torn, written_is_torn, opening, opening_open, gate_left, overwrite_at_seam}
 
@@ -278,3 +279,36 @@ module _ (bodies : List (List ℕ)) (body : List ℕ) (start : History) (gate : 
       last_leaves disk k image left =
           let found = has_left disk.state journal_name k.file image.state k.has left.state in
           inr (record { bytes = found.bytes; found = found.is; text = front_left (bodies ++ body ∷ []) k.file found.bytes k.keeps found.left })
+
+-- the same of what reads alone
+module _ (bodies : List (List ℕ)) (body : List ℕ) (gate : ℕ) (fits : FitsCell body) where
+  pub appended_reads : (first second third fourth last : DiskState) (piece : List ℕ) → piece ≡ cell_tail body → ReadsJournal first gate bodies
+      → WriteStep journal_place (gate + 1) piece (Ok tt) first second → SyncStep journal_place (Ok tt) second third
+      → WriteStep journal_place gate (1 ∷ []) (Ok tt) third fourth → SyncStep journal_place (Ok tt) fourth last
+      → ReadsJournal last (gate + (5 + length body)) (bodies ++ body ∷ [])
+  appended_reads first second third fourth last piece is reads filled settled opened kept =
+      let a : List ℕ = front bodies ++ reads.text.gate ∷ [] in
+      let at : gate + 1 ≡ length a = let more = length-append (front bodies) (reads.text.gate ∷ []) in omega (arith, more, reads.at) in
+      let was : reads.bytes ≡ a ++ reads.text.rest = reads.text.is ∙ sym (append_assoc (front bodies) (reads.text.gate ∷ []) reads.text.rest) in
+      let behind : List ℕ = drop (length piece) reads.text.rest in
+      let shut : List ℕ = opening bodies body reads.text.gate behind in
+      let bytes : overwrite reads.bytes (gate + 1) piece ≡ shut =
+          ap (λ (xs : List ℕ). overwrite xs (gate + 1) piece) was
+          ∙ ap (λ (n : ℕ). overwrite (a ++ reads.text.rest) n piece) at
+          ∙ overwrite_at_seam a reads.text.rest piece
+          ∙ ap (λ (xs : List ℕ). (a ++ xs) ++ behind) is
+          ∙ append_assoc a (cell_tail body) behind
+          ∙ append_assoc (front bodies) (reads.text.gate ∷ []) (cell_tail body ++ behind)
+          ∙ ap (λ (xs : List ℕ). front bodies ++ reads.text.gate ∷ xs) (append_assoc (in_four (length body) ++ body) (0 ∷ []) behind) in
+      let now_shut : bytes_at third journal_place ≡ Some shut =
+          sync_reads journal_place second third settled ∙ write_reads journal_place (gate + 1) piece reads.bytes first second reads.reads filled ∙ ap Some bytes in
+      let r : List ℕ = (in_four (length body) ++ body) ++ 0 ∷ behind in
+      let opens : overwrite shut gate (1 ∷ []) ≡ opening bodies body 1 behind =
+          ap (λ (n : ℕ). overwrite shut n (1 ∷ [])) reads.at ∙ overwrite_at_seam (front bodies) (reads.text.gate ∷ r) (1 ∷ []) ∙ append_assoc (front bodies) (1 ∷ []) r in
+      let all : front (bodies ++ body ∷ []) ≡ front bodies ++ cell body = ap (λ (xs : List ℕ). header ++ xs) (cells_push bodies body) in
+      record {
+        bytes = opening bodies body 1 behind;
+        reads = sync_reads journal_place fourth last kept ∙ write_reads journal_place gate (1 ∷ []) shut third fourth now_shut opened ∙ ap Some opens;
+        text = opening_open bodies body behind (opening bodies body 1 behind) reads.text.sizes fits refl;
+        at = let long = ap length all in let parts = length-append (front bodies) (cell body) in let one = length-cell body in omega (arith, long, parts, one, reads.at);
+      }

@@ -34,3 +34,10 @@ WithOrWithout bodies body image = HasJournal bodies image ⊎ HasJournal (bodies
 -- what is written behind a closed gate: the length, the body, and the next gate, closed
 abbrev pub cell_tail : List ℕ → List ℕ
 cell_tail body = (in_four (length body) ++ body) ++ 0 ∷ []
+
+-- The journal reads as one of these bodies, durable or not. Its closed gate stands at this place.
+pub record ReadsJournal (disk : DiskState) (gate : ℕ) (bodies : List (List ℕ)) : Type 0 where
+  pub bytes : List ℕ
+  pub reads : bytes_at disk journal_place ≡ Some bytes
+  pub text : IsJournalText bodies bytes
+  pub at : gate ≡ length (front bodies)

@@ -4,7 +4,7 @@ ghost use Rattle.dm_disk_model.specs.Faults.{disk_kind};
 ghost use Rattle.dm_disk_model.specs.Disk.{now, Stands};
 ghost use Rattle.dm_disk_model.specs.Moments.{LeavesOnly, KeepsFiles};
 ghost use Rattle.dm_journal.specs.Text.{FitsCell};
-ghost use Rattle.dm_journal.specs.AtRest.{journal_place, AtRest, WithOrWithout, cell_tail};
+ghost use Rattle.dm_journal.specs.AtRest.{journal_place, AtRest, ReadsJournal, WithOrWithout, cell_tail};
 
 use crate::opening::write_cell;
 use dm_disk_model::{Disk, DiskFault, Place};
@@ -43,6 +43,8 @@ impl Journal {
             → LeavesOnly (D.history disk.old) (D.history disk.new) (WithOrWithout bodies body.now) }
         ensures acknowledged { D.tells → (bodies : List (List ℕ)) → AtRest (now (D.history disk.old)) self.old bodies
             → OnOk result (AtRest (now (D.history disk.new)) self.new (bodies ++ body.now ∷ [])) }
+        ensures read { D.tells → (bodies : List (List ℕ)) → ReadsJournal (now (D.history disk.old)) self.old bodies
+            → OnOk result (ReadsJournal (now (D.history disk.new)) self.new (bodies ++ body.now ∷ [])) }
         ensures beside { D.tells → KeepsFiles (D.history disk.old) (D.history disk.new) }
         ensures ok { OnOk result (self.new ≡ self.old + (5 + length body.now)) }
         ensures err { OnErr result (self.new ≡ self.old) }

@@ -4,7 +4,7 @@ ghost use Rattle.dm_disk_model.specs.Faults.{disk_kind};
 ghost use Rattle.dm_disk_model.specs.Disk.{now, Stands};
 ghost use Rattle.dm_disk_model.specs.Moments.{LeavesOnly, KeepsFiles};
 ghost use Rattle.dm_journal.specs.Text.{FitsCell};
-ghost use Rattle.dm_journal.specs.AtRest.{journal_place, AtRest, WithOrWithout, cell_tail};
+ghost use Rattle.dm_journal.specs.AtRest.{journal_place, AtRest, ReadsJournal, WithOrWithout, cell_tail};
 
 use dm_disk_model::{Disk, DiskFault, Place};
 
@@ -23,6 +23,8 @@ pub(crate) fn write_cell<D: Disk>(
         → AtRest (now (D.history disk.old)) gate bodies → LeavesOnly (D.history disk.old) (D.history disk.new) (WithOrWithout bodies body) }
     ensures done { D.tells → (bodies : List (List ℕ)) (body : List ℕ) → FitsCell body → tail.now ≡ cell_tail body
         → AtRest (now (D.history disk.old)) gate bodies → OnOk result (AtRest (now (D.history disk.new)) (gate + (5 + length body)) (bodies ++ body ∷ [])) }
+    ensures read { D.tells → (bodies : List (List ℕ)) (body : List ℕ) → FitsCell body → tail.now ≡ cell_tail body
+        → ReadsJournal (now (D.history disk.old)) gate bodies → OnOk result (ReadsJournal (now (D.history disk.new)) (gate + (5 + length body)) (bodies ++ body ∷ [])) }
     ensures beside { D.tells → KeepsFiles (D.history disk.old) (D.history disk.new) }
     ensures near { OnOk result (gate + 1 + length tail.now < 2 ^ 63) }
     ensures cause { HasCause disk_kind (D.faults disk.old) (D.faults disk.new) result }
