@@ -4,7 +4,8 @@ use Rattle.std.specs.Option.{option_map}
 use Rattle.std.proofs.lemmas.Option.{same_Some}
 use Rattle.dm_disk_model.specs.File.{File, FileLeaves}
 use Rattle.dm_disk_model.specs.Folder.{Names, Folder, Contents, FolderLeaves, NameLeaves, Change, Created, FileSteps, Creates, Changes, SyncsNames, EachPrefix, AreApart, IsSoundFolder, names_of, names_after, contents_of, after_change}
-use Rattle.dm_disk_model.specs.Firm.{HasFile, HasNone, LeftOf}
+use Rattle.dm_disk_model.specs.Firm.{HasFile, LeftOf}
+use Rattle.dm_disk_model.specs.Names.{IsAbsent}
 use Rattle.dm_disk_model.proofs.PendingNames.{each_now, each_more, each_synced, with_name_other}
 
 -- what holds of each prefix stays where neither the synced names nor the changes change
@@ -31,7 +32,7 @@ has_left folder name file contents has leaves =
     (subst (λ (found : Option ℕ). NameLeaves folder.file found (contents name)) (has.named leaves.survive) (leaves.each name))
 
 -- nothing is left under a name that has no file
-pub none_left : (folder : Folder) (name : List ℕ) (contents : Contents) → HasNone folder name → FolderLeaves folder contents → contents name ≡ None
+pub none_left : (folder : Folder) (name : List ℕ) (contents : Contents) → IsAbsent name folder → FolderLeaves folder contents → contents name ≡ None
 none_left folder name contents none leaves =
     nothing (contents name) (subst (λ (found : Option ℕ). NameLeaves folder.file found (contents name)) (none leaves.survive) (leaves.each name))
   where

@@ -1,10 +1,10 @@
-pub mod Keeping
-pub mod Naming
-pub mod Places
-pub mod Reading
 pub mod FileBytes
 pub mod FirmNames
 pub mod Images
+pub mod Keeping
+pub mod Naming
 pub mod PendingNames
+pub mod Places
 pub mod Reaching
+pub mod Reading
 pub mod Standing

@@ -6,6 +6,7 @@ use Rattle.std.proofs.lemmas.Bool.{cases_lt, false≢true}
 use Rattle.std.proofs.lemmas.Option.{none-some, same_Some}
 use Rattle.std.proofs.lemmas.Slice.Eq.{bytes_eq-Decides}
 use Rattle.std.specs.Bool.{Decides}
+pub use Rattle.dm_disk_model.proofs.Reading.{with_name_same, with_name_other}
 use Rattle.dm_disk_model.specs.Folder.{Names, Change, Created, Renamed, Removed, Folder, with_name, after_change, after_changes, names_of, names_after, EachPrefix, AreApart}
 
 -- a name that is set, and the others
@@ -16,12 +17,6 @@ with_name_cases names name number other = by (bytes_eq other name) (bytes_eq-Dec
     by : (b : Bool) → Decides b (other ≡ name) → ((other ≡ name) × (cond b number (names other) ≡ number)) ⊎ ((other ≢ name) × (cond b number (names other) ≡ names other))
     by true same = inl (same.0 refl, refl)
     by false differs = inr ((λ e. false≢true (differs.1 e)), refl)
-
-pub with_name_same : (names : Names) (name : List ℕ) (number : Option ℕ) → with_name names name number name ≡ number
-with_name_same names name number = ⊎_elim (λ same. same.1) (λ differs. absurd (differs.0 refl)) (with_name_cases names name number name)
-
-pub with_name_other : (names : Names) (name : List ℕ) (number : Option ℕ) (other : List ℕ) → other ≢ name → with_name names name number other ≡ names other
-with_name_other names name number other apart = ⊎_elim (λ same. absurd (apart same.0)) (λ differs. differs.1) (with_name_cases names name number other)
 
 pub after_changes-append : (names : Names) (first later : List Change) → after_changes names (first ++ later) ≡ after_changes (after_changes names first) later
 after_changes-append names [] later = refl

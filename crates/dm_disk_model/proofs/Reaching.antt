@@ -2,7 +2,8 @@
 use Rattle.std.proofs.Common.{◌≡◌, ⊎_elim, ℕ, ◌<◌, ◌≤◌, refl, sym, ◌∙◌, subst, arith}
 use Rattle.std.proofs.lemmas.Bool.{cases_lt}
 use Rattle.dm_disk_model.specs.Disk.{DiskState, Image, History, Next, now, MayHaveLeft}
-use Rattle.dm_disk_model.specs.Moments.{Throughout, LeavesOnly, Reached}
+use Rattle.dm_disk_model.specs.Moments.{LeavesOnly, Reached}
+use Rattle.dm_disk_model.specs.Names.{Throughout}
 
 -- nothing was done
 pub at_start : (history : History) (P : DiskState → Type 0) → P (now history) → Throughout history history P

@@ -1,5 +1,5 @@
 -- What a name has, whichever of the pending changes of names survive.
-use Rattle.std.specs.Prelude.{◌≡◌, ℕ, List, Option, Some, None}
+use Rattle.std.specs.Prelude.{◌≡◌, ℕ, List, Option, Some}
 use Rattle.dm_disk_model.specs.File.{File, FileLeaves}
 use Rattle.dm_disk_model.specs.Folder.{Folder, EachPrefix}
 
@@ -8,10 +8,6 @@ pub record HasFile (folder : Folder) (name : List ℕ) (file : File) : Type 0 wh
   pub number : ℕ
   pub named : EachPrefix folder (λ names. names name ≡ Some number)
   pub is : folder.file number ≡ file
-
--- the name has no file
-abbrev pub HasNone : Folder → List ℕ → Type 0
-HasNone folder name = EachPrefix folder (λ names. names name ≡ None)
 
 -- what is found are bytes that a crash may leave of the file
 pub record LeftOf (file : File) (found : Option (List ℕ)) : Type 0 where

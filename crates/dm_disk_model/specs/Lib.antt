@@ -3,6 +3,6 @@ pub mod Faults
 pub mod File
 pub mod Firm
 pub mod Folder
-pub mod Names
 pub mod Laws
 pub mod Moments
+pub mod Names

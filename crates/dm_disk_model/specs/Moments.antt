@@ -1,18 +1,13 @@
 -- What holds of a disk at each moment of a call or of several.
 use Rattle.std.specs.Prelude.{◌≡◌, ℕ, ◌≤◌}
+use Rattle.dm_disk_model.specs.Names.{Throughout}
 use Rattle.dm_disk_model.specs.Disk.{DiskState, Image, History, MayLeave, now}
 
--- This holds at each moment from the old history's present on, up to the new one's. Earlier ones stay.
-pub record Throughout (old new : History) (P : DiskState → Type 0) : Type 0 where
-  pub later : old.moment ≤ new.moment
-  pub kept : (t : ℕ) → t ≤ old.moment → new.at t ≡ old.at t
-  pub each : (t : ℕ) → old.moment ≤ t → t ≤ new.moment → P (new.at t)
-
--- A crash at any of these moments leaves only images that have P.
+-- A crash at any moment from the old history's present on leaves only images that have P.
 abbrev pub LeavesOnly : History → History → (Image → Type 0) → Type 0
 LeavesOnly old new P = Throughout old new (λ disk. (image : Image) → MayLeave disk image → P image)
 
--- The user's files are as they were, at each of these moments.
+-- The user's files are as they were, at each moment.
 abbrev pub KeepsFiles : History → History → Type 0
 KeepsFiles old new = Throughout old new (λ disk. disk.files ≡ (now old).files)
 

@@ -1,0 +1,77 @@
+use Rattle.std.proofs.Common.{◌+◌, ◌∷◌, [], Ok, Err}
+use Rattle.dm_journal.proofs.Calls.{write_home, sync_home, fill_failed, fill_done, settle_failed, settle_done, open_failed, open_done, keep_failed, keep_done, appended_reads}
+use Rattle.dm_disk_model.specs.Disk.{now}
+use Rattle.dm_journal.proofs.opening.write_cell.Goals as goal
+
+pub returns-in_err-write_at-clause-any_moment : goal.returns-in_err-write_at-clause-any_moment
+returns-in_err-write_at-clause-any_moment g c tells bodies body fits is rest =
+    let history = g.D.Disk.history in
+    let start = history c.args.disk.now in
+    let gate = c.args.gate in
+    let home = c.requires.place in
+    fill_failed bodies body start gate fits c.in_err-write_at.field-0.0 (history c.write_at.new.self) c.args.tail.now rest (write_home c.args.place.now (gate + 1) c.args.tail.now (Err c.in_err-write_at.field-0.0) start (history c.write_at.new.self) home (c.in_err-write_at.ensures.done tells))
+
+pub returns-in_err-sync-clause-any_moment : goal.returns-in_err-sync-clause-any_moment
+returns-in_err-sync-clause-any_moment g c tells bodies body fits is rest =
+    let history = g.D.Disk.history in
+    let start = history c.args.disk.now in
+    let gate = c.args.gate in
+    let home = c.requires.place in
+    let filled = fill_done bodies body start gate fits (history c.write_at.new.self) c.args.tail.now is rest (write_home c.args.place.now (gate + 1) c.args.tail.now (Ok tt) start (history c.write_at.new.self) home (c.in_ok-write_at.ensures.done tells)) in
+    settle_failed bodies body start gate fits c.in_err-sync.field-0.0 (history c.write_at.new.self) (history c.sync.new.self) filled (sync_home c.args.place.now (Err c.in_err-sync.field-0.0) (history c.write_at.new.self) (history c.sync.new.self) home (c.in_err-sync.ensures.done tells))
+
+pub returns-in_err-write_at-2-clause-any_moment : goal.returns-in_err-write_at-2-clause-any_moment
+returns-in_err-write_at-2-clause-any_moment g c tells bodies body fits is rest =
+    let history = g.D.Disk.history in
+    let start = history c.args.disk.now in
+    let gate = c.args.gate in
+    let home = c.requires.place in
+    let filled = fill_done bodies body start gate fits (history c.write_at.new.self) c.args.tail.now is rest (write_home c.args.place.now (gate + 1) c.args.tail.now (Ok tt) start (history c.write_at.new.self) home (c.in_ok-write_at.ensures.done tells)) in
+    let ready = settle_done bodies body start gate fits (history c.write_at.new.self) (history c.sync.new.self) filled (sync_home c.args.place.now (Ok tt) (history c.write_at.new.self) (history c.sync.new.self) home (c.in_ok-sync.ensures.done tells)) in
+    open_failed bodies body start gate fits c.in_err-write_at-2.field-0.0 (history c.sync.new.self) (history c.write_at-2.new.self) rest.at ready (write_home c.args.place.now gate (1 ∷ []) (Err c.in_err-write_at-2.field-0.0) (history c.sync.new.self) (history c.write_at-2.new.self) home (c.in_err-write_at-2.ensures.done tells))
+
+pub returns-in_err-sync-2-clause-any_moment : goal.returns-in_err-sync-2-clause-any_moment
+returns-in_err-sync-2-clause-any_moment g c tells bodies body fits is rest =
+    let history = g.D.Disk.history in
+    let start = history c.args.disk.now in
+    let gate = c.args.gate in
+    let home = c.requires.place in
+    let filled = fill_done bodies body start gate fits (history c.write_at.new.self) c.args.tail.now is rest (write_home c.args.place.now (gate + 1) c.args.tail.now (Ok tt) start (history c.write_at.new.self) home (c.in_ok-write_at.ensures.done tells)) in
+    let ready = settle_done bodies body start gate fits (history c.write_at.new.self) (history c.sync.new.self) filled (sync_home c.args.place.now (Ok tt) (history c.write_at.new.self) (history c.sync.new.self) home (c.in_ok-sync.ensures.done tells)) in
+    let opened = open_done bodies body start gate fits (history c.sync.new.self) (history c.write_at-2.new.self) rest.at ready (write_home c.args.place.now gate (1 ∷ []) (Ok tt) (history c.sync.new.self) (history c.write_at-2.new.self) home (c.in_ok-write_at-2.ensures.done tells)) in
+    keep_failed bodies body start gate fits c.in_err-sync-2.field-0.0 (history c.write_at-2.new.self) (history c.sync-2.new.self) opened (sync_home c.args.place.now (Err c.in_err-sync-2.field-0.0) (history c.write_at-2.new.self) (history c.sync-2.new.self) home (c.in_err-sync-2.ensures.done tells))
+
+pub returns-clause-any_moment : goal.returns-clause-any_moment
+returns-clause-any_moment g c tells bodies body fits is rest =
+    let history = g.D.Disk.history in
+    let start = history c.args.disk.now in
+    let gate = c.args.gate in
+    let home = c.requires.place in
+    let filled = fill_done bodies body start gate fits (history c.write_at.new.self) c.args.tail.now is rest (write_home c.args.place.now (gate + 1) c.args.tail.now (Ok tt) start (history c.write_at.new.self) home (c.in_ok-write_at.ensures.done tells)) in
+    let ready = settle_done bodies body start gate fits (history c.write_at.new.self) (history c.sync.new.self) filled (sync_home c.args.place.now (Ok tt) (history c.write_at.new.self) (history c.sync.new.self) home (c.in_ok-sync.ensures.done tells)) in
+    let opened = open_done bodies body start gate fits (history c.sync.new.self) (history c.write_at-2.new.self) rest.at ready (write_home c.args.place.now gate (1 ∷ []) (Ok tt) (history c.sync.new.self) (history c.write_at-2.new.self) home (c.in_ok-write_at-2.ensures.done tells)) in
+    (keep_done bodies body start gate fits (history c.write_at-2.new.self) (history c.sync-2.new.self) rest.at opened (sync_home c.args.place.now (Ok tt) (history c.write_at-2.new.self) (history c.sync-2.new.self) home (c.in_ok-sync-2.ensures.done tells))).so_far
+
+pub returns-clause-done : goal.returns-clause-done
+returns-clause-done g c tells bodies body fits is rest =
+    let history = g.D.Disk.history in
+    let start = history c.args.disk.now in
+    let gate = c.args.gate in
+    let home = c.requires.place in
+    let filled = fill_done bodies body start gate fits (history c.write_at.new.self) c.args.tail.now is rest (write_home c.args.place.now (gate + 1) c.args.tail.now (Ok tt) start (history c.write_at.new.self) home (c.in_ok-write_at.ensures.done tells)) in
+    let ready = settle_done bodies body start gate fits (history c.write_at.new.self) (history c.sync.new.self) filled (sync_home c.args.place.now (Ok tt) (history c.write_at.new.self) (history c.sync.new.self) home (c.in_ok-sync.ensures.done tells)) in
+    let opened = open_done bodies body start gate fits (history c.sync.new.self) (history c.write_at-2.new.self) rest.at ready (write_home c.args.place.now gate (1 ∷ []) (Ok tt) (history c.sync.new.self) (history c.write_at-2.new.self) home (c.in_ok-write_at-2.ensures.done tells)) in
+    (keep_done bodies body start gate fits (history c.write_at-2.new.self) (history c.sync-2.new.self) rest.at opened (sync_home c.args.place.now (Ok tt) (history c.write_at-2.new.self) (history c.sync-2.new.self) home (c.in_ok-sync-2.ensures.done tells))).rest
+
+pub returns-clause-read : goal.returns-clause-read
+returns-clause-read g c tells bodies body fits is reads =
+    let history = g.D.Disk.history in
+    let start = history c.args.disk.now in
+    let gate = c.args.gate in
+    let home = c.requires.place in
+    let filled = write_home c.args.place.now (gate + 1) c.args.tail.now (Ok tt) start (history c.write_at.new.self) home (c.in_ok-write_at.ensures.done tells) in
+    let settled = sync_home c.args.place.now (Ok tt) (history c.write_at.new.self) (history c.sync.new.self) home (c.in_ok-sync.ensures.done tells) in
+    let opened = write_home c.args.place.now gate (1 ∷ []) (Ok tt) (history c.sync.new.self) (history c.write_at-2.new.self) home (c.in_ok-write_at-2.ensures.done tells) in
+    let kept = sync_home c.args.place.now (Ok tt) (history c.write_at-2.new.self) (history c.sync-2.new.self) home (c.in_ok-sync-2.ensures.done tells) in
+    appended_reads bodies body gate fits (now start) (now (history c.write_at.new.self)) (now (history c.sync.new.self)) (now (history c.write_at-2.new.self)) (now (history c.sync-2.new.self))
+    c.args.tail.now is reads filled.stepped settled.stepped opened.stepped kept.stepped

@@ -1,0 +1,15 @@
+//! The journal: a list of bodies in one file, of which a crash leaves all that were acknowledged.
+#![tactic(auto)]
+
+mod cell;
+mod fault;
+mod journal;
+mod opening;
+mod text;
+
+pub use fault::TextFault;
+pub use journal::Journal;
+pub use text::{Bodies, read_journal};
+
+#[cfg(test)]
+mod tests;
