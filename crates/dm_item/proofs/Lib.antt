@@ -4,3 +4,4 @@ pub mod Looks
 pub mod Below
 pub mod Steps
 pub mod Histories
+pub mod Sounds
