@@ -5,3 +5,4 @@ pub mod Below
 pub mod Steps
 pub mod Histories
 pub mod Sounds
+pub mod Shorts

@@ -184,7 +184,7 @@ finishing_reason phases.Cancelled reason ends is = absurd (false≢true ends)
 finishing_reason (phases.Interrupted why) reason ends is = absurd (false≢true ends)
 
 -- the entries that change an item come in no complete and no cancelled phase
-stays_open : (e : Entry) (phase : Phase) → allows e phase ≡ true → is_gone e ≡ false → changes e ≡ true → (is_complete phase ≡ false) × (is_cancelled phase ≡ false)
+pub stays_open : (e : Entry) (phase : Phase) → allows e phase ≡ true → is_gone e ≡ false → changes e ≡ true → (is_complete phase ≡ false) × (is_cancelled phase ≡ false)
 stays_open e phases.Waiting may stays does = (refl, refl)
 stays_open e phases.Running may stays does = (refl, refl)
 stays_open e phases.Paused may stays does = (refl, refl)

@@ -52,3 +52,9 @@ KeepsHistory old new more = (history : History) → IsOf history old → IsOf (h
 pub record TookSome (old new : Listing) (more : History) : Type 0 where
   pub count : ℕ
   pub keeps : KeepsHistory old new (take count more)
+
+-- the short history of a list is lawful, and leaves the same items and the same next id
+pub record IsShort (v : Listing) (at : ℕ) : Type 0 where
+  pub lawful : IsLawful (short_history v at)
+  pub items : items_of (short_history v at) ≡ v.items
+  pub next : next_id_of (short_history v at) ≡ v.next
