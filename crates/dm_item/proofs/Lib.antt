@@ -6,3 +6,4 @@ pub mod Steps
 pub mod Histories
 pub mod Sounds
 pub mod Shorts
+pub mod Laws

@@ -115,7 +115,7 @@ begins_not : (by : By) (phase : Phase) → is_waiting phase ≡ false → is_int
 begins_not User phase waits breaks may = false≢true (sym waits ∙ may)
 begins_not Itself phase waits breaks may = false≢true (sym breaks ∙ may)
 
-never_complete : (e : Entry) → allows e phases.Complete ≡ true → is_gone e ≡ false → changes e ≡ true → ⊥
+pub never_complete : (e : Entry) → allows e phases.Complete ≡ true → is_gone e ≡ false → changes e ≡ true → ⊥
 never_complete (entries.Added id word address wish digest at) may stays does = false≢true does
 never_complete (entries.Began id attempt by at) may stays does = begins_not by phases.Complete refl refl may
 never_complete (entries.Described id key last_address total name modified) may stays does = false≢true may
