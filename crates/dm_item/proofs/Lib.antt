@@ -6,4 +6,4 @@ pub mod Steps
 pub mod Histories
 pub mod Sounds
 pub mod Shorts
-pub mod Laws
+pub mod Lasting

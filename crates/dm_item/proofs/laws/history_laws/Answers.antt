@@ -1,4 +1,4 @@
-use Rattle.dm_item.proofs.Laws.{at_most_five, done_once, stays_over}
+use Rattle.dm_item.proofs.Lasting.{at_most_five, done_once, stays_over}
 use Rattle.dm_item.proofs.laws.history_laws.Goals as goal
 
 pub returns-clause-done_once : goal.returns-clause-done_once
