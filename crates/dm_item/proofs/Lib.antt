@@ -4,3 +4,6 @@ pub mod Looks
 pub mod Below
 pub mod Steps
 pub mod Histories
+pub mod Sounds
+pub mod Shorts
+pub mod Lasting

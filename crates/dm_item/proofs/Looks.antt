@@ -213,7 +213,7 @@ stands-fresh : (test : Entry → Bool) {g : List Entry} → ((next at : ℕ) →
 stands-fresh test none nothing = refl
 stands-fresh test none (opened {next} {at} {g} fresh) = ap (λ (b : Bool). b || stands test g) (none next at) ∙ stands-fresh test none fresh
 
-count-fresh : (test : Entry → Bool) {g : List Entry} → ((next at : ℕ) → test (entries.Reopened next at) ≡ false) → Fresh g → count_of test g ≡ 0
+pub count-fresh : (test : Entry → Bool) {g : List Entry} → ((next at : ℕ) → test (entries.Reopened next at) ≡ false) → Fresh g → count_of test g ≡ 0
 count-fresh test none nothing = refl
 count-fresh test none (opened {next} {at} {g} fresh) = ap (λ (b : Bool). cond b (count_of test g + 1) (count_of test g)) (none next at) ∙ count-fresh test none fresh
 

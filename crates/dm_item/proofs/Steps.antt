@@ -400,3 +400,50 @@ sane_lawful (e ∷ h) lawful = (next_of_lawful 0 e h (sane_lawful h lawful.1) la
 -- One more entry that meets its row does what the table says.
 pub left_by_step : (limit : ℕ) (e : Entry) (h : List Entry) → IsLawfulBack h → Meets (left_by limit h) e → left_by limit (e ∷ h) ≡ applied e (left_by limit h)
 left_by_step limit e h lawful meets = (next_of_lawful limit e h (sane_lawful h lawful) meets).value
+
+-- What one more lawful entry is to an id.
+pub data StepAt (e : Entry) (h : List Entry) (k : ℕ) : Type 0 where
+  elsewhere : own k (e ∷ h) ≡ own k h → StepAt e h k
+  named_here : (id : ItemId) (item : Item) → name_of e ≡ Some id → item_at h k ≡ Some item → allows e item.phase ≡ true → Further e (items_below (item_at h) (next_of h)) item → own k (e ∷ h) ≡ e ∷ own k h → item_at (e ∷ h) k ≡ effect e item → StepAt e h k
+  opened_all : (next at : ℕ) → e ≡ entries.Reopened next at → own k (e ∷ h) ≡ e ∷ own k h → item_at (e ∷ h) k ≡ map_some stopped_item (item_at h k) → StepAt e h k
+  made_here : Fresh (own k h) → own k (e ∷ h) ≡ e ∷ own k h → there (base_of e) ≡ true → StepAt e h k
+
+named_at : (e : Entry) (id : ItemId) (h : List Entry) (k : ℕ) → Sane h → Plain e id → (found : Option Item) → item_in id.0 (items_below (item_at h) (next_of h)) ≡ found → Row e (items_below (item_at h) (next_of h)) found → StepAt e h k
+named_at e id h k sane plain None is row = absurd row
+named_at e id h k sane plain (Some item) is row =
+    let named : Named e id h (items_below (item_at h) (next_of h)) item = record { found = in_below (item_at h) id.0 (next_of h) item sane.indexed is; further = row.1 } in
+    elim (cases_eq id.0 k) [
+      | inl same ↦ named_here id item plain.name (subst (λ (j : ℕ). item_at h j ≡ Some item) same named.found.is) row.0 row.1
+          (subst (λ (j : ℕ). own j (e ∷ h) ≡ e ∷ own j h) same (own_same e h id.0 plain.named))
+          (subst (λ (j : ℕ). item_at (e ∷ h) j ≡ effect e item) same (at_own 0 e id h sane plain item named))
+      | inr other ↦ elsewhere (own_other e h id.0 k plain.named other)
+    ]
+
+made_at : (e : Entry) (h : List Entry) (id k : ℕ) → id_of e ≡ Some id → there (base_of e) ≡ true → Fresh (own id h) → StepAt e h k
+made_at e h id k named base fresh =
+    elim (cases_eq id k) [
+      | inl same ↦ made_here (subst (λ (j : ℕ). Fresh (own j h)) same fresh) (subst (λ (j : ℕ). own j (e ∷ h) ≡ e ∷ own j h) same (own_same e h id named)) base
+      | inr other ↦ elsewhere (own_other e h id k named other)
+    ]
+
+restored_fresh : (item : Item) (h : List Entry) → Sane h → Meets (left_by 0 h) (entries.Restored item) → Fresh (own item.id.0 h)
+restored_fresh item h sane meets =
+    early_fresh item.id.0 h meets.is_early
+    (absent_at (item_at h item.id.0) (λ i is. let under = above_below (item_at h) item.id.0 (next_of h) item.id.0 i sane.indexed meets.above meets.below is in omega arith))
+
+pub step_at : (e : Entry) (h : List Entry) (k : ℕ) → Sane h → Meets (left_by 0 h) e → StepAt e h k
+step_at (entries.Added id word address wish digest at) h k sane meets = made_at (entries.Added id word address wish digest at) h id.0 k refl refl (sane.fresh id.0 (let same = meets.0 in omega arith))
+step_at (entries.Began id attempt by at) h k sane meets = named_at (entries.Began id attempt by at) id h k sane (record { name = refl; named = refl; no_added = refl; no_next = refl; late = refl }) (item_in id.0 (items_below (item_at h) (next_of h))) refl meets
+step_at (entries.Described id key last_address total name modified) h k sane meets = named_at (entries.Described id key last_address total name modified) id h k sane (record { name = refl; named = refl; no_added = refl; no_next = refl; late = refl }) (item_in id.0 (items_below (item_at h) (next_of h))) refl meets
+step_at (entries.Progress id slices) h k sane meets = named_at (entries.Progress id slices) id h k sane (record { name = refl; named = refl; no_added = refl; no_next = refl; late = refl }) (item_in id.0 (items_below (item_at h) (next_of h))) refl meets
+step_at (entries.Broke id why) h k sane meets = named_at (entries.Broke id why) id h k sane (record { name = refl; named = refl; no_added = refl; no_next = refl; late = refl }) (item_in id.0 (items_below (item_at h) (next_of h))) refl meets
+step_at (entries.Paused id) h k sane meets = named_at (entries.Paused id) id h k sane (record { name = refl; named = refl; no_added = refl; no_next = refl; late = refl }) (item_in id.0 (items_below (item_at h) (next_of h))) refl meets
+step_at (entries.Cancelled id) h k sane meets = named_at (entries.Cancelled id) id h k sane (record { name = refl; named = refl; no_added = refl; no_next = refl; late = refl }) (item_in id.0 (items_below (item_at h) (next_of h))) refl meets
+step_at (entries.Restarted id epoch because) h k sane meets = named_at (entries.Restarted id epoch because) id h k sane (record { name = refl; named = refl; no_added = refl; no_next = refl; late = refl }) (item_in id.0 (items_below (item_at h) (next_of h))) refl meets
+step_at (entries.Finishing id total) h k sane meets = named_at (entries.Finishing id total) id h k sane (record { name = refl; named = refl; no_added = refl; no_next = refl; late = refl }) (item_in id.0 (items_below (item_at h) (next_of h))) refl meets
+step_at (entries.Done id digest at) h k sane meets = named_at (entries.Done id digest at) id h k sane (record { name = refl; named = refl; no_added = refl; no_next = refl; late = refl }) (item_in id.0 (items_below (item_at h) (next_of h))) refl meets
+step_at (entries.Removed id) h k sane meets = named_at (entries.Removed id) id h k sane (record { name = refl; named = refl; no_added = refl; no_next = refl; late = refl }) (item_in id.0 (items_below (item_at h) (next_of h))) refl meets
+step_at (entries.Archived id) h k sane meets = named_at (entries.Archived id) id h k sane (record { name = refl; named = refl; no_added = refl; no_next = refl; late = refl }) (item_in id.0 (items_below (item_at h) (next_of h))) refl meets
+step_at (entries.Reopened next at) h k sane meets = opened_all next at refl refl (item-reopened next at (own k h))
+step_at (entries.Restored other) h k sane meets = made_at (entries.Restored other) h other.id.0 k refl refl (restored_fresh other h sane meets)
+step_at (entries.Asked id) h k sane meets = named_at (entries.Asked id) id h k sane (record { name = refl; named = refl; no_added = refl; no_next = refl; late = refl }) (item_in id.0 (items_below (item_at h) (next_of h))) refl meets

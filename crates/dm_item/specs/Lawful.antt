@@ -1,10 +1,10 @@
 -- Lawful histories, and the items that they leave. A public history is oldest first.
-use Rattle.std.specs.Prelude.{◌≡◌, ℕ, ◌+◌, ◌≤◌, Bool, false, true, ◌==◌, ◌&&◌, List, [], ◌∷◌, ◌++◌, map, reverse, take, Option}
+use Rattle.std.specs.Prelude.{◌≡◌, ℕ, ◌+◌, ◌<◌, ◌≤◌, IfSome, Bool, false, true, ◌==◌, ◌&&◌, List, [], ◌∷◌, ◌++◌, map, reverse, take, Option}
 use Rattle.dm_types.specs.declared.item.Item.{Item}
 use Rattle.dm_types.specs.declared.entry.Entry.{Entry}
 use Rattle.dm_types.specs.declared.entry.Entry.TheVariants as entries
-use Rattle.dm_item.specs.History.{count_of}
-use Rattle.dm_item.specs.Fields.{is_early, is_empty, item_at, items_below, next_of}
+use Rattle.dm_item.specs.History.{count_of, since, stands}
+use Rattle.dm_item.specs.Fields.{is_began_by_itself, is_began_by_user, is_early, is_empty, is_running, item_at, items_below, next_of, own}
 use Rattle.dm_item.specs.Listing.{Listing, Meets}
 
 abbrev pub History : Type 0
@@ -52,3 +52,33 @@ KeepsHistory old new more = (history : History) → IsOf history old → IsOf (h
 pub record TookSome (old new : Listing) (more : History) : Type 0 where
   pub count : ℕ
   pub keeps : KeepsHistory old new (take count more)
+
+-- the short history of a list is lawful, and leaves the same items and the same next id
+pub record IsShort (v : Listing) (at : ℕ) : Type 0 where
+  pub lawful : IsLawful (short_history v at)
+  pub items : items_of (short_history v at) ≡ v.items
+  pub next : next_id_of (short_history v at) ≡ v.next
+
+-- Laws of every lawful history.
+
+abbrev pub is_done : Entry → Bool
+is_done (entries.Done id digest at) = true
+is_done _ = false
+
+-- the item with an id behind a history
+abbrev pub item_with : ℕ → History → Option Item
+item_with id history = item_at (reverse history) id
+
+-- an id has at most one Done
+abbrev pub DoneOnce : History → Type 0
+DoneOnce history = (id : ℕ) → count_of is_done (own id (reverse history)) ≤ 1
+
+-- an item that isn't running under an attempt never runs again under it
+abbrev pub StaysOver : History → History → Type 0
+StaysOver history more = (id : ℕ) → IfSome (item_with id history) (λ item. is_running item.phase ≡ false →
+    IfSome (item_with id (history ++ more)) (λ later. is_running later.phase ≡ true → item.attempt.0 < later.attempt.0))
+
+-- at most five attempts by itself stand behind one by the user
+abbrev pub AtMostFive : History → Type 0
+AtMostFive history = (id : ℕ) → stands is_began_by_user (own id (reverse history)) ≡ true →
+    count_of is_began_by_itself (since is_began_by_user (own id (reverse history))) ≤ 5

@@ -8,8 +8,8 @@ use crate::copies::copy_item;
 use crate::names::is_free_word;
 use crate::restored::is_restorable;
 use crate::rows::mode_of_item;
-use crate::take::{change_named, push_item, stop_every};
-use dm_types::{Entry, Item, ItemId, Mode, NoMemory, Text};
+use crate::take::{add_restored, change_named, push_item, stop_every};
+use dm_types::{Entry, Item, ItemId, Listed, Mode, NoMemory, Text};
 use std::alloc::Global;
 use std::marker::Model;
 
@@ -49,7 +49,7 @@ impl Model for Items {
 impl Items {
     ghost use Rattle.dm_item.specs.Fields.{added_item};
     ghost use Rattle.dm_item.specs.Row.{mode_of_item, name_of, stopped_item};
-    ghost use Rattle.dm_item.specs.Lawful.{IsOf, KeepsHistory, TookSome};
+    ghost use Rattle.dm_item.specs.Lawful.{History, IsOf, IsShort, KeepsHistory, TookSome, short_history};
     ghost use Rattle.dm_item.specs.Listing.{AddedDeclines, Declines, HasRoom, HasWordOf, IsFreeWord, IsRestorable, NamedDeclines, ReopenedDeclines, RestoredDeclines, RowAt, Takes, empty_list, item_in, items_after};
 
     /// An empty list that takes on at most `limit` items.
@@ -144,6 +144,21 @@ impl Items {
             }
         }
         Ok(())
+    }
+
+    /// A short history of the list, for a journal that is written anew: what is next, and each item
+    /// as it stands. It is lawful and leaves the same items.
+    pub fn short_history(&self, at: u64) -> Result<Listed<Entry>, NoMemory>
+        ensures value { IfOk result (λ list. list ≡ short_history self.now at) }
+        ensures law { (history : History) → IsOf history self.now → IsShort self.now at }
+    {
+        let mut entries = Listed::new(self.alloc);
+        entries.push(Entry::Reopened {
+            next: self.next,
+            at,
+        })?;
+        add_restored(self.alloc, &self.items, &mut entries)?;
+        Ok(entries)
     }
 
     fn take_named(&mut self, entry: &Entry) -> Result<(), ApplyFault>

@@ -1,5 +1,6 @@
 ghost use Rattle.std.specs.Prelude.{◌≡◌, ◌<◌, ◌++◌, ◌∷◌, [], IsTrue, IsSome, IsOk, IfErr, OnOk, OnErr, if◌then◌else◌, vec_len, map, slice_index_or, slice_set, remove};
 ghost use Rattle.dm_types.specs.declared.item.Item.{Item};
+ghost use Rattle.dm_types.specs.declared.entry.Entry.TheVariants.{Restored};
 ghost use Rattle.dm_item.specs.Fields.{is_gone};
 ghost use Rattle.dm_item.specs.Row.{FitsAutos, Further, allows, changed, name_of, stopped_item};
 ghost use Rattle.dm_item.specs.Listing.{NamedDeclines, NamedTakes, RowDeclines, is_broke, place_in};
@@ -7,8 +8,9 @@ ghost use Rattle.dm_item.specs.Listing.{NamedDeclines, NamedTakes, RowDeclines, 
 use crate::ApplyFault;
 use crate::change::{change, stop_all};
 use crate::conditions::is_further;
+use crate::copies::copy_item;
 use crate::rows::{kind_of, may_come, name_of};
-use dm_types::{Entry, Item, ItemId, NoMemory};
+use dm_types::{Entry, Item, ItemId, Listed, NoMemory};
 use std::alloc::Global;
 
 /// Does what an entry says to the item that it names, or says why not.
@@ -110,4 +112,25 @@ pub(crate) fn stop_every(items: &mut Vec<Item>)
     ensures { items.new.items ≡ map stopped_item items.old.items }
 {
     stop_all(items);
+}
+
+/// Adds an entry that restores each item.
+pub(crate) fn add_restored(
+    alloc: Global,
+    items: &[Item],
+    entries: &mut Listed<Entry>,
+) -> Result<(), NoMemory>
+    ensures { OnOk result (entries.new ≡ entries.old ++ map Restored items.now) }
+{
+    for item in items {
+        push_restored(alloc, item, entries)?;
+    }
+    Ok(())
+}
+
+fn push_restored(alloc: Global, item: &Item, entries: &mut Listed<Entry>) -> Result<(), NoMemory>
+    ensures { OnOk result (entries.new ≡ entries.old ++ Restored item.now ∷ []) }
+{
+    let item = copy_item(alloc, item)?;
+    entries.push(Entry::Restored { item })
 }

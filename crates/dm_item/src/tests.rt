@@ -284,6 +284,19 @@ fn further_conditions(rt: HostRuntime) -> Result<(), Fail> {
 }
 
 #[test]
+fn a_short_history_leaves_the_same_items(rt: HostRuntime) -> Result<(), Fail> {
+    let items = in_phase(&rt, rt.alloc(), Phase::Running);
+    let entries = items.short_history(8)?;
+    assert_eq!(rt; entries.count(), 2);
+    let mut again = Items::new(rt.alloc(), 9)?;
+    assert_eq!(rt; again.apply_all(entries.items()), Ok(()));
+    assert_eq!(rt; again.next(), 4);
+    assert_eq!(rt; again.count(), 1);
+    assert_eq!(rt; again.mode(ItemId(1)), items.mode(ItemId(1)));
+    Ok(())
+}
+
+#[test]
 fn an_item_is_copied(rt: HostRuntime) -> Result<(), Fail> {
     let items = in_phase(&rt, rt.alloc(), Phase::Paused);
     let copy = copy_item(rt.alloc(), items.get(ItemId(1)).ok_or("item 1")?)?;
