@@ -1,0 +1,5 @@
+pub mod ClassLemmas
+pub mod SpellLemmas
+pub mod SoundLemmas
+pub mod RunLemmas
+pub mod FieldLemmas
