@@ -1,11 +1,19 @@
 -- What a run says of the grammar.
-use Rattle.std.proofs.Common.{◌≡◌, ℕ, suc, ◌+◌, ◌<◌, ◌≤◌, Bool, true, false, List, [], ◌∷◌, ◌++◌, length, get_or, take, drop, ◌⊎◌, inl, inr, append_assoc, Option, Some, None, refl, sym, ap, ◌∙◌, subst, arith, add-zero}
-use Rattle.std.specs.Prelude.{option_and_then}
+use Rattle.std.proofs.Common.{◌≡◌, ℕ, suc, ◌+◌, ◌<◌, ◌≤◌, Bool, true, false, List, [], ◌∷◌, ◌++◌, length, get_or, take, drop, ◌⊎◌, inl, inr, append_assoc, Option, Some, None, Result, Ok, Err, codes, refl, sym, ap, ◌∙◌, subst, arith, add-zero}
+use Rattle.std.specs.Prelude.{option_and_then, IfOk}
+use Rattle.std.specs.List.{AllByRecursion}
 use Rattle.std.proofs.lemmas.Bool.{both_ways}
 use Rattle.std.proofs.lemmas.Option.{same_Some, none-some}
 use Rattle.std.proofs.lemmas.List.{append-nil, take-append-drop, take-take, drop_more, take_more, take_all, length-take, length-take-le, get_or-take}
 use Rattle.dm_disposition.specs.Grammar.{Field, Spells}
-use Rattle.dm_disposition.specs.Names.{Named, named_of}
+use Rattle.dm_disposition.specs.Names.{Named, named_of, IsSpelled, AreApart}
+use Rattle.dm_disposition.specs.Told.{HasText, IsExtended, MaybeExtended, PlainOf, ExtendedOf}
+use Rattle.dm_disposition.specs.Read.{Tells, Answers, Judges}
+use Rattle.dm_disposition.specs.Views.{Gives}
+use Rattle.dm_disposition.specs.declared.DispFault.{DispFault}
+use Rattle.dm_disposition.specs.declared.DispFault.TheVariants.{NotGrammar, Repeated, NoMemory}
+use Rattle.dm_disposition.specs.declared.Disposition.{Disposition}
+use Rattle.dm_disposition.proofs.NameLemmas.{of_spelled, one_text}
 use Rattle.dm_disposition.specs.Fronts.{BeginsValue, IsLongestFront, IsStuckAt}
 use Rattle.dm_disposition.specs.Machine.{next, is_end, Notes, settled, taken, run, nothing, StopsAt, EndsWith}
 use Rattle.dm_disposition.specs.declared.state.State.{State}
@@ -92,3 +100,30 @@ each_field text n field e spells =
     let same = same_Some e.last ended.last (sym e.ran ∙ ended.ran) in
     let all = e.same ∙ ap settled same ∙ ended.same in
     (ap (λ (x : Notes). x.kind) all, ap (λ (x : Notes). x.done) all)
+
+-- what was noted is what the field tells
+pub tells : (value : List ℕ) (n : Notes) (field : Field) (told : Disposition) → EndsWith value n → Spells field value → AreApart n.done → told.kind ≡ n.kind → (AllByRecursion IsSpelled n.done → PlainOf n.done told.plain) → (AreApart n.done → ExtendedOf n.done told.extended) → Tells field told
+tells value n field told ends spells apart kind plain extended =
+    let same = each_field value n field ends spells in
+    record {
+      apart = subst AreApart same.1 apart;
+      kind = kind ∙ same.0;
+      plain = subst (λ (ns : List Named). PlainOf ns told.plain) same.1 (plain (subst (AllByRecursion IsSpelled) (sym same.1) (of_spelled field spells.is)));
+      extended = subst (λ (ns : List Named). ExtendedOf ns told.extended) same.1 (extended apart);
+    }
+
+pub extended_told : {E : Type 0} (ns : List Named) (text : List ℕ) (r : Result (Option (List ℕ)) E) → HasText ns (codes "filename*") text → IfOk r (MaybeExtended text) → IfOk r (λ told. AreApart ns → ExtendedOf ns told)
+extended_told ns text (Ok (Some chars)) h x = λ apart. (text, h, x)
+extended_told ns text (Ok None) h none = λ apart other chars g x. none chars (subst (λ (t : List ℕ). IsExtended t chars) (one_text ns (codes "filename*") other text apart g h) x)
+extended_told ns text (Err e) h x = tt
+
+-- what was refused
+pub refused_answers : (value : List ℕ) (field : Field) (fault : DispFault) → Gives value (Err fault) → Spells field value → Answers field (Err fault)
+refused_answers value field (NotGrammar k) h spells = (stuck_is value k h).outside field spells
+refused_answers value field (Repeated place) h spells = absurd h
+refused_answers value field NoMemory h spells = tt
+
+pub refused_judges : (value : List ℕ) (fault : DispFault) → Gives value (Err fault) → Judges value (Err fault)
+refused_judges value (NotGrammar k) h = stuck_is value k h
+refused_judges value (Repeated place) h = absurd h
+refused_judges value NoMemory h = tt

@@ -3,3 +3,5 @@ pub mod SpellLemmas
 pub mod SoundLemmas
 pub mod RunLemmas
 pub mod FieldLemmas
+pub mod NameLemmas
+pub mod TextLemmas

@@ -1,5 +1,5 @@
 -- Kinds of bytes in a Content-Disposition.
-use Rattle.std.specs.Prelude.{◌≡◌, ◌<◌, ℕ, Bool, ◌||◌, ◌==◌, IsTrue, List, length, codes, nat_eq}
+use Rattle.std.specs.Prelude.{◌≡◌, ◌<◌, ℕ, Bool, false, ◌||◌, ◌==◌, IsTrue, List, [], ◌∷◌, ◌++◌, length, codes, nat_eq}
 use Rattle.std.specs.List.{AllByRecursion, list_any}
 use Rattle.std.specs.Char.{is_ascii_alphanumeric}
 use Rattle.std.specs.Int.{is_in_range}
@@ -23,6 +23,17 @@ is_escapable b = b == 9 || is_in_range 32 126 b || is_in_range 128 255 b
 -- each byte is of the kind
 abbrev pub Each : (ℕ → Bool) → List ℕ → Type 0
 Each kind bytes = AllByRecursion (λ b. IsTrue (kind b)) bytes
+
+-- the first byte, if there is one, isn't of the kind
+abbrev pub Stops : (ℕ → Bool) → List ℕ → Type 0
+Stops kind [] = Unit {0}
+Stops kind (b ∷ bytes) = kind b ≡ false
+
+-- the bytes are a run of the kind, as long as it goes, and what follows
+pub record Cuts (kind : ℕ → Bool) (bytes run rest : List ℕ) : Type 0 where
+  pub parts : bytes ≡ run ++ rest
+  pub each : Each kind run
+  pub stops : Stops kind rest
 
 -- token = 1*tchar
 pub record IsToken (bytes : List ℕ) : Type 0 where

@@ -1,7 +1,9 @@
 -- The reader's own automaton. No public clause cites it.
-use Rattle.std.specs.Prelude.{◌≡◌, ◌<◌, ◌⊎◌, length, take, slice_index, ℕ, ◌+◌, ◌==◌, Bool, true, false, if◌then◌else◌, Option, Some, None, option_and_then, List, [], ◌∷◌, ◌++◌}
+use Rattle.std.specs.Char.{is_ascii_hexdigit}
+use Rattle.std.specs.Prelude.{◌≡◌, zero, suc, ◌<◌, ◌⊎◌, length, take, slice_index, ℕ, ◌+◌, ◌==◌, Bool, true, false, if◌then◌else◌, Option, Some, None, option_and_then, List, [], ◌∷◌, ◌++◌}
 use Rattle.dm_disposition.specs.Bytes.{is_blank, is_token_byte, is_quoted_text, is_escapable}
 use Rattle.dm_disposition.specs.Names.{Named}
+use Rattle.dm_disposition.specs.Told.{is_attr_byte}
 use Rattle.dm_disposition.specs.declared.state.State.{State}
 use Rattle.dm_disposition.specs.declared.state.State.TheVariants.{Start, Kind, Between, Semicolon, Name, AfterName, Equals, Token, Quoted, Escaped, Closed}
 
@@ -118,3 +120,20 @@ pub record EndsWith (text : List ℕ) (notes : Notes) : Type 0 where
   pub ran : run nothing 0 text ≡ Some last
   pub end : is_end last.state ≡ true
   pub same : notes ≡ settled last
+
+-- the bytes between double quotes, where the first is behind a backslash or isn't
+abbrev pub unescaped : Bool → List ℕ → List ℕ
+unescaped true [] = []
+unescaped false [] = []
+unescaped true (b ∷ bytes) = b ∷ unescaped false bytes
+unescaped false (b ∷ bytes) = if b == 92 then unescaped true bytes else b ∷ unescaped false bytes
+
+-- how many hexadecimal digits are to come behind this byte of an ext-value, where so many were to come
+abbrev pub digits_after : ℕ → ℕ → Option ℕ
+digits_after zero b = if b == 37 then Some 2 else (if is_attr_byte b then Some 0 else None)
+digits_after (suc digits) b = if is_ascii_hexdigit b then Some digits else None
+
+-- and behind all these bytes
+unfoldable pub digits_behind : ℕ → List ℕ → Option ℕ
+digits_behind digits [] = Some digits
+digits_behind digits (b ∷ bytes) = option_and_then (λ d. digits_behind d bytes) (digits_after digits b)

@@ -2,7 +2,7 @@
 use Rattle.std.specs.Prelude.{◌≡◌, ℕ, ◌+◌, Option, Some, None, List, [], ◌∷◌, ◌++◌, map, length, Any}
 use Rattle.std.specs.List.{AllByRecursion}
 use Rattle.std.specs.Char.{to_ascii_lowercase}
-use Rattle.dm_disposition.specs.Grammar.{Parameter, Piece, Field, value_text, piece_text}
+use Rattle.dm_disposition.specs.Grammar.{Value, IsValue, Parameter, Piece, Field, value_text, piece_text}
 
 -- a name, the place of its first byte in the whole value, and the text of its value
 pub record Named : Type 0 where
@@ -22,6 +22,12 @@ named_from at (p ∷ ps) = named_here (at + (length p.before + (1 + length p.aft
 
 abbrev pub named_of : Field → List Named
 named_of f = named_from (length f.front + length f.kind) f.pieces
+
+-- its text is that of a value
+pub record IsSpelled (n : Named) : Type 0 where
+  pub value : Value
+  pub is : IsValue value
+  pub spelled : n.text ≡ value_text value
 
 -- one name, ASCII case ignored
 abbrev pub SameName : Named → Named → Type 0
