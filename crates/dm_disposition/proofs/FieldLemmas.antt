@@ -72,19 +72,19 @@ pub stuck_is : (text : List ℕ) (k : ℕ) → StopsAt text k → IsStuckAt text
 stuck_is text k s =
     elim s.stops [
       | inl h ↦
-        record {
-          outside = λ field spells. no_front text k s.last s.ran h.1 (length text) h.0 (omega arith) (record { more = []; field = field; spells = subst (Spells field) (sym (append-nil (take (length text) text) ∙ take_all (length text) text (omega arith))) spells });
-          front = record { within = omega (arith, h.0); begins = begins (take k text) s.last s.ran; longest = no_front text k s.last s.ran h.1 };
-        }
+          record {
+            outside = λ field spells. no_front text k s.last s.ran h.1 (length text) h.0 (omega arith) (record { more = []; field = field; spells = subst (Spells field) (sym (append-nil (take (length text) text) ∙ take_all (length text) text (omega arith))) spells });
+            front = record { within = omega (arith, h.0); begins = begins (take k text) s.last s.ran; longest = no_front text k s.last s.ran h.1 };
+          }
       | inr h ↦
-        record {
-          outside = λ field spells.
-            let ended = field_run field text spells in
-            let whole = take_all k text (omega (arith, h.0)) in
-            let same = same_Some s.last ended.last (sym s.ran ∙ ap (run nothing 0) whole ∙ ended.ran) in
-            both_ways (is_end s.last.state) h.1 (ap (λ (n : Notes). is_end n.state) same ∙ ended.end);
-          front = record { within = omega (arith, h.0); begins = begins (take k text) s.last s.ran; longest = λ m lt le b. absurd (omega (arith, h.0)) };
-        }
+          record {
+            outside = λ field spells.
+                let ended = field_run field text spells in
+                let whole = take_all k text (omega (arith, h.0)) in
+                let same = same_Some s.last ended.last (sym s.ran ∙ ap (run nothing 0) whole ∙ ended.ran) in
+                both_ways (is_end s.last.state) h.1 (ap (λ (n : Notes). is_end n.state) same ∙ ended.end);
+            front = record { within = omega (arith, h.0); begins = begins (take k text) s.last s.ran; longest = λ m lt le b. absurd (omega (arith, h.0)) };
+          }
     ]
 
 -- a text that was run to its end is in the grammar

@@ -47,9 +47,10 @@ each_push P (m ∷ ns) n h p = (h.0, each_push P ns n h.1 p)
 
 apart_push : (ns : List Named) (n : Named) → AreApart ns → (Any (λ m. SameName m n) ns → ⊥) → AreApart (ns ++ n ∷ [])
 apart_push [] n h none = (tt, tt)
-apart_push (m ∷ ns) n h none =
-    (each_push (λ k. SameName m k → ⊥) ns n h.0 (λ same. none (0, m, omega arith, refl, same)),
-     apart_push ns n h.1 (λ a. none (suc a.0, a.1, omega (arith, a.2), a.3, a.4)))
+apart_push (m ∷ ns) n h none = (
+  each_push (λ k. SameName m k → ⊥) ns n h.0 (λ same. none (0, m, omega arith, refl, same)),
+  apart_push ns n h.1 (λ a. none (suc a.0, a.1, omega (arith, a.2), a.3, a.4)),
+)
 
 pub apart_more : (ps : List Parameter) (i : ℕ) (p : Parameter) → i < length ps → p ≡ get_or ps i p → AreApart (map named (take i ps)) → (Any (Has p.name.items) (take i ps) → ⊥) → AreApart (map named (take (i + 1) ps))
 apart_more ps i p lt here h none =
@@ -62,8 +63,8 @@ repeat_is ps i p lt here h any = record {
   again = named p;
   after = map named (drop (i + 1) ps);
   parts =
-    ap (map named) (sym (take-append-drop i ps) ∙ ap (λ (x : List Parameter). take i ps ++ x) (drop_more ps i p lt ∙ ap (λ (q : Parameter). q ∷ drop (i + 1) ps) (sym here)))
-    ∙ map-append named (take i ps) (p ∷ drop (i + 1) ps);
+      ap (map named) (sym (take-append-drop i ps) ∙ ap (λ (x : List Parameter). take i ps ++ x) (drop_more ps i p lt ∙ ap (λ (q : Parameter). q ∷ drop (i + 1) ps) (sym here)))
+      ∙ map-append named (take i ps) (p ∷ drop (i + 1) ps);
   apart = h;
   repeats = any_named (take i ps) (named p) any;
   here = refl;
@@ -123,6 +124,6 @@ one_text ns name x y apart p q =
     let a : get_or ns p.among.0 p.one ≡ p.one = p.among.2 in
     let b : get_or ns q.among.0 p.one ≡ q.one = get_or_default ns q.among.0 p.one q.one q.among.1 ∙ q.among.2 in
     let same : SameName (get_or ns p.among.0 p.one) (get_or ns q.among.0 p.one) =
-      ap (λ (n : Named). map to_ascii_lowercase n.name) a ∙ p.same ∙ sym q.same ∙ sym (ap (λ (n : Named). map to_ascii_lowercase n.name) b) in
+    ap (λ (n : Named). map to_ascii_lowercase n.name) a ∙ p.same ∙ sym q.same ∙ sym (ap (λ (n : Named). map to_ascii_lowercase n.name) b) in
     let at = one_place ns p.among.0 q.among.0 p.one apart p.among.1 q.among.1 same in
     p.is ∙ ap (λ (n : Named). n.text) (sym a ∙ ap (λ (k : ℕ). get_or ns k p.one) at ∙ b) ∙ sym q.is

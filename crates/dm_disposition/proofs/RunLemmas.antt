@@ -226,10 +226,10 @@ value_run (quoted ms) kind done place at name h =
     record {
       last = notes Closed kind done place name (34 ∷ (flat ++ 34 ∷ []));
       ran = λ w. ap (run (notes Equals kind done place name []) at) (quoted_regroup ms w)
-        ∙ run_one (notes Equals kind done place name []) at 34 (flat ++ 34 ∷ w) Quoted refl
-        ∙ marks_run ms kind done place (at + 1) name (34 ∷ []) (34 ∷ w) h
-        ∙ run_one (notes Quoted kind done place name (34 ∷ flat)) ((at + 1) + length flat) 34 w Closed refl
-        ∙ ap (λ (k : ℕ). run (notes Closed kind done place name (34 ∷ (flat ++ 34 ∷ []))) k w) place_is;
+          ∙ run_one (notes Equals kind done place name []) at 34 (flat ++ 34 ∷ w) Quoted refl
+          ∙ marks_run ms kind done place (at + 1) name (34 ∷ []) (34 ∷ w) h
+          ∙ run_one (notes Quoted kind done place name (34 ∷ flat)) ((at + 1) + length flat) 34 w Closed refl
+          ∙ ap (λ (k : ℕ). run (notes Closed kind done place name (34 ∷ (flat ++ 34 ∷ []))) k w) place_is;
       behind = record { is = tt; same = refl };
     }
 
@@ -244,11 +244,11 @@ parameter_run p kind done place at h =
     record {
       last = value.last;
       ran = λ w. ap (run (notes Semicolon kind done place [] []) at) (parameter_regroup p w)
-        ∙ name_run p.name kind done place at (p.before ++ 61 ∷ (p.after ++ (value_text p.value ++ w))) h.name
-        ∙ to_equals p.before kind done at (at + length p.name) p.name (p.after ++ (value_text p.value ++ w)) h.before
-        ∙ blanks (notes Equals kind done at p.name []) (λ c k. rw k refl) (λ b c. refl) p.after ((at + length p.name) + (length p.before + 1)) (value_text p.value ++ w) h.after
-        ∙ value.ran w
-        ∙ ap (λ (k : ℕ). run value.last k w) place_is;
+          ∙ name_run p.name kind done place at (p.before ++ 61 ∷ (p.after ++ (value_text p.value ++ w))) h.name
+          ∙ to_equals p.before kind done at (at + length p.name) p.name (p.after ++ (value_text p.value ++ w)) h.before
+          ∙ blanks (notes Equals kind done at p.name []) (λ c k. rw k refl) (λ b c. refl) p.after ((at + length p.name) + (length p.before + 1)) (value_text p.value ++ w) h.after
+          ∙ value.ran w
+          ∙ ap (λ (k : ℕ). run value.last k w) place_is;
       behind = value.behind;
     }
 
@@ -266,11 +266,11 @@ piece_ends before after None ps end n at kind done place behind b a is follow =
     let place_is : k ≡ at + length (piece_text p) = omega arith in
     let rest = follow (notes Semicolon kind done place [] []) k done place (record { is = tt; same = refl }) in
     let ran = ap (run n at) (pieces_regroup p ps end)
-      ∙ to_semicolon before n at kind done place (after ++ (flat_map piece_text ps ++ end)) behind b
-      ∙ blanks (notes Semicolon kind done place [] []) (λ c h. rw h refl) (λ x c. refl) after (at + (length before + 1)) (flat_map piece_text ps ++ end) a
-      ∙ rest.ran in
+    ∙ to_semicolon before n at kind done place (after ++ (flat_map piece_text ps ++ end)) behind b
+    ∙ blanks (notes Semicolon kind done place [] []) (λ c h. rw h refl) (λ x c. refl) after (at + (length before + 1)) (flat_map piece_text ps ++ end) a
+    ∙ rest.ran in
     subst (λ (x : ℕ). Ended n at (flat_map piece_text (p ∷ ps) ++ end) kind (done ++ named_from x ps)) place_is
-      (record { last = rest.last; ran = ran; end = rest.end; place = rest.place; same = rest.same })
+    (record { last = rest.last; ran = ran; end = rest.end; place = rest.place; same = rest.same })
 piece_ends before after (Some q) ps end n at kind done place behind b a is follow =
     let p : Piece = record { before = before; after = after; parameter = Some q } in
     let k = (at + (length before + 1)) + length after in
@@ -282,10 +282,10 @@ piece_ends before after (Some q) ps end n at kind done place behind b a is follo
     let through = parameter_run q kind done place k is in
     let rest = follow through.last (k + length (parameter_text q)) (done ++ one ∷ []) k through.behind in
     let ran = ap (run n at) (pieces_regroup p ps end)
-      ∙ to_semicolon before n at kind done place (after ++ (parameter_text q ++ (flat_map piece_text ps ++ end))) behind b
-      ∙ blanks (notes Semicolon kind done place [] []) (λ c h. rw h refl) (λ x c. refl) after (at + (length before + 1)) (parameter_text q ++ (flat_map piece_text ps ++ end)) a
-      ∙ through.ran (flat_map piece_text ps ++ end)
-      ∙ rest.ran in
+    ∙ to_semicolon before n at kind done place (after ++ (parameter_text q ++ (flat_map piece_text ps ++ end))) behind b
+    ∙ blanks (notes Semicolon kind done place [] []) (λ c h. rw h refl) (λ x c. refl) after (at + (length before + 1)) (parameter_text q ++ (flat_map piece_text ps ++ end)) a
+    ∙ through.ran (flat_map piece_text ps ++ end)
+    ∙ rest.ran in
     let ended : Ended n at (flat_map piece_text (p ∷ ps) ++ end) kind ((done ++ one ∷ []) ++ named_from (k + length (parameter_text q)) ps) = record { last = rest.last; ran = ran; end = rest.end; place = rest.place; same = rest.same } in
     subst (λ (x : ℕ). Ended n at (flat_map piece_text (p ∷ ps) ++ end) kind (done ++ record { place = x; name = q.name; text = value_text q.value } ∷ named_from (at + length (piece_text p)) ps)) here
     (subst (λ (x : ℕ). Ended n at (flat_map piece_text (p ∷ ps) ++ end) kind (done ++ one ∷ named_from x ps)) behind_is
@@ -312,8 +312,8 @@ field_run f value h =
     let rest = pieces_run f.pieces f.back (notes Kind f.kind [] 0 [] []) (length f.front + length f.kind) f.kind [] 0 (record { is = tt; same = refl }) h.is.pieces h.is.back in
     let place_is : (0 + length f.front) + length f.kind ≡ length f.front + length f.kind = omega arith in
     let ran = ap (run nothing 0) h.text
-      ∙ blanks nothing (λ c k. rw k refl) (λ x c. refl) f.front 0 (f.kind ++ (flat_map piece_text f.pieces ++ f.back)) h.is.front
-      ∙ kind_run f.kind (0 + length f.front) (flat_map piece_text f.pieces ++ f.back) h.is.kind
-      ∙ ap (λ (k : ℕ). run (notes Kind f.kind [] 0 [] []) k (flat_map piece_text f.pieces ++ f.back)) place_is
-      ∙ rest.ran in
+    ∙ blanks nothing (λ c k. rw k refl) (λ x c. refl) f.front 0 (f.kind ++ (flat_map piece_text f.pieces ++ f.back)) h.is.front
+    ∙ kind_run f.kind (0 + length f.front) (flat_map piece_text f.pieces ++ f.back) h.is.kind
+    ∙ ap (λ (k : ℕ). run (notes Kind f.kind [] 0 [] []) k (flat_map piece_text f.pieces ++ f.back)) place_is
+    ∙ rest.ran in
     record { last = rest.last; ran = ran; end = rest.end; place = rest.place; same = rest.same }

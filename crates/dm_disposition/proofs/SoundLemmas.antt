@@ -120,8 +120,8 @@ semicolon_tail w r =
       each = (record { before = tt; after = r.each; parameter = o.is }, t.each);
       blank = t.blank;
       text =
-        ap (λ (x : List ℕ). 59 ∷ x) (r.text ∙ ap (λ (x : List ℕ). r.front ++ x) (o.text ∙ ap (λ (x : List ℕ). optional_text o.parameter ++ x) t.text))
-        ∙ sym (pieces_regroup (record { before = []; after = r.front; parameter = o.parameter }) t.pieces t.back);
+          ap (λ (x : List ℕ). 59 ∷ x) (r.text ∙ ap (λ (x : List ℕ). r.front ++ x) (o.text ∙ ap (λ (x : List ℕ). optional_text o.parameter ++ x) t.text))
+          ∙ sym (pieces_regroup (record { before = []; after = r.front; parameter = o.parameter }) t.pieces t.back);
     }
 
 -- a tail stands where a parameter may be left out
@@ -141,8 +141,8 @@ one_parameter c w h r =
       is = record { name = record { each = (h, r.each); some = omega arith }; before = before.each; after = after.each; value = v.is };
       tail = v.tail;
       text =
-        ap (λ (x : List ℕ). c ∷ x) (r.text ∙ ap (λ (x : List ℕ). r.front ++ x) (before.text ∙ ap (λ (x : List ℕ). before.front ++ x) (before.follows.text ∙ ap (λ (x : List ℕ). 61 ∷ x) (after.text ∙ ap (λ (x : List ℕ). after.front ++ x) v.text))))
-        ∙ sym (parameter_regroup p v.rest);
+          ap (λ (x : List ℕ). c ∷ x) (r.text ∙ ap (λ (x : List ℕ). r.front ++ x) (before.text ∙ ap (λ (x : List ℕ). before.front ++ x) (before.follows.text ∙ ap (λ (x : List ℕ). 61 ∷ x) (after.text ∙ ap (λ (x : List ℕ). after.front ++ x) v.text))))
+          ∙ sym (parameter_regroup p v.rest);
     }
 
 token_value : (c : ℕ) (w : List ℕ) → is_token_byte c ≡ true → Run is_token_byte Tail w → ValueTail (c ∷ w)
@@ -165,18 +165,24 @@ closing w t = record { marks = []; rest = w; each = tt; tail = t; text = refl }
 blank_start : (c : ℕ) (w : List ℕ) → is_blank c ≡ true → StartTail w → StartTail (c ∷ w)
 blank_start c w h s =
     let f = s.field in
-    record { field = record f { front = c ∷ f.front }; spells = record {
-      is = record { front = (h, s.spells.is.front); kind = s.spells.is.kind; pieces = s.spells.is.pieces; back = s.spells.is.back };
-      text = ap (λ (x : List ℕ). c ∷ x) s.spells.text;
-    } }
+    record {
+      field = record f { front = c ∷ f.front };
+      spells = record {
+        is = record { front = (h, s.spells.is.front); kind = s.spells.is.kind; pieces = s.spells.is.pieces; back = s.spells.is.back };
+        text = ap (λ (x : List ℕ). c ∷ x) s.spells.text;
+      };
+    }
 
 kind_start : (c : ℕ) (w : List ℕ) → is_token_byte c ≡ true → Run is_token_byte Tail w → StartTail (c ∷ w)
 kind_start c w h r =
     let t = r.follows in
-    record { field = record { front = []; kind = c ∷ r.front; pieces = t.pieces; back = t.back }; spells = record {
-      is = record { front = tt; kind = record { each = (h, r.each); some = omega arith }; pieces = t.each; back = t.blank };
-      text = ap (λ (x : List ℕ). c ∷ x) (r.text ∙ ap (λ (x : List ℕ). r.front ++ x) t.text);
-    } }
+    record {
+      field = record { front = []; kind = c ∷ r.front; pieces = t.pieces; back = t.back };
+      spells = record {
+        is = record { front = tt; kind = record { each = (h, r.each); some = omega arith }; pieces = t.each; back = t.blank };
+        text = ap (λ (x : List ℕ). c ∷ x) (r.text ∙ ap (λ (x : List ℕ). r.front ++ x) t.text);
+      };
+    }
 
 -- ---- by states
 

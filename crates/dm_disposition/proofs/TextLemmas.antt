@@ -126,8 +126,8 @@ extended_is text charset encoded bytes (Ok (Some chars)) parts are reads = recor
 extended_is text charset encoded bytes (Ok None) parts are none = λ chars x.
     let one = ext_one text x.charset x.encoded charset encoded x.parts parts in
     none chars (subst (λ (b : List ℕ). InCharset charset b chars) (sym are)
-      (subst (λ (e : List ℕ). InCharset charset (percent_decode e) chars) one.1
-      (subst (λ (s : List ℕ). InCharset s (percent_decode x.encoded) chars) one.0 x.reads)))
+    (subst (λ (e : List ℕ). InCharset charset (percent_decode e) chars) one.1
+    (subst (λ (s : List ℕ). InCharset s (percent_decode x.encoded) chars) one.0 x.reads)))
 extended_is text charset encoded bytes (Err e) parts are reads = tt
 
 -- ---- the characters of an ext-value

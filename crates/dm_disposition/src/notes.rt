@@ -63,7 +63,13 @@ impl Notes {
     }
 
     /// Notes one byte more, at this place, which leads to the next state.
-    pub fn take(&mut self, alloc: Global, place: usize, byte: u8, next: State) -> Result<(), NoMemory>
+    pub fn take(
+        &mut self,
+        alloc: Global,
+        place: usize,
+        byte: u8,
+        next: State,
+    ) -> Result<(), NoMemory>
         ensures { OnOk result (view self.new ≡ taken (view self.old) place byte next) }
     {
         match next {

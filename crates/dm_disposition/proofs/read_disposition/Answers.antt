@@ -25,10 +25,10 @@ pub returns-clause-answers : goal.returns-clause-answers
 returns-clause-answers c = λ field spells.
     let at = c.as_slice-parameters.ensures.value in
     tells c.args.value.now (view c.in-Ok.notes) field _ c.in-Ok.ensures spells
-        (subst (λ (ps : List Parameter). AreApart (map named ps)) at c.in_default.ensures.none)
-        (c.in_ok-kind.ensures ∙ c.as_slice.ensures.value)
-        (subst (λ (ps : List Parameter). AllByRecursion IsSpelled (map named ps) → PlainOf (map named ps) c.in_ok-plain.plain) at c.in_ok-plain.ensures)
-        (subst (λ (ps : List Parameter). AreApart (map named ps) → ExtendedOf (map named ps) c.in_ok-extended.extended) at c.in_ok-extended.ensures)
+    (subst (λ (ps : List Parameter). AreApart (map named ps)) at c.in_default.ensures.none)
+    (c.in_ok-kind.ensures ∙ c.as_slice.ensures.value)
+    (subst (λ (ps : List Parameter). AllByRecursion IsSpelled (map named ps) → PlainOf (map named ps) c.in_ok-plain.plain) at c.in_ok-plain.ensures)
+    (subst (λ (ps : List Parameter). AreApart (map named ps) → ExtendedOf (map named ps) c.in_ok-extended.extended) at c.in_ok-extended.ensures)
 
 pub returns-clause-judges : goal.returns-clause-judges
 returns-clause-judges c = some_field c.args.value.now (view c.in-Ok.notes) c.in-Ok.ensures

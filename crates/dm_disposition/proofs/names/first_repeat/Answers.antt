@@ -16,4 +16,4 @@ loop-index-preserved c =
     let i = c.loop-index.index in
     let p = c.index-parameters-index.result in
     apart_more c.args.parameters.now i p (omega arith) c.index-parameters-index.is c.loop-index.invariant
-        (λ a. both_ways c.stands_among.result c.if-stands_among.false (c.stands_among.ensures.1 (subst (λ (n : List ℕ). Any (Has n) (take i c.args.parameters.now)) (sym c.as_slice.ensures.value) a)))
+    (λ a. both_ways c.stands_among.result c.if-stands_among.false (c.stands_among.ensures.1 (subst (λ (n : List ℕ). Any (Has n) (take i c.args.parameters.now)) (sym c.as_slice.ensures.value) a)))
