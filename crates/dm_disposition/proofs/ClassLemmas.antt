@@ -1,5 +1,5 @@
 -- Which kinds of bytes exclude each other.
-use Rattle.std.proofs.Common.{◌≡◌, ℕ, Bool, true, false, cond, eqb, ◌⊎◌, inl, inr, refl, sym, ap, ◌∙◌, subst, ◌||◌}
+use Rattle.std.proofs.Common.{◌≡◌, ℕ, Bool, true, false, eqb, ◌⊎◌, inl, inr, refl, sym, ap, ◌∙◌}
 use Rattle.std.proofs.lemmas.Bool.{both_ways, ne_eqb, eqb-true, or_cases, or_from}
 use Rattle.dm_disposition.specs.Bytes.{is_blank, is_token_byte, is_quoted_text}
 

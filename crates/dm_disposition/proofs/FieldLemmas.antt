@@ -1,10 +1,10 @@
 -- What a run says of the grammar.
-use Rattle.std.proofs.Common.{◌≡◌, ℕ, suc, ◌+◌, ◌<◌, ◌≤◌, Bool, true, false, List, [], ◌∷◌, ◌++◌, length, get_or, take, drop, ◌⊎◌, inl, inr, append_assoc, Option, Some, None, Result, Ok, Err, codes, refl, sym, ap, ◌∙◌, subst, arith, add-zero}
+use Rattle.std.proofs.Common.{◌≡◌, ℕ, ◌+◌, ◌<◌, ◌≤◌, List, [], ◌∷◌, ◌++◌, length, get_or, take, drop, inl, inr, append_assoc, Option, Some, None, Result, Ok, Err, codes, refl, sym, ap, ◌∙◌, subst, arith}
 use Rattle.std.specs.Prelude.{option_and_then, IfOk}
 use Rattle.std.specs.List.{AllByRecursion}
 use Rattle.std.proofs.lemmas.Bool.{both_ways}
 use Rattle.std.proofs.lemmas.Option.{same_Some, none-some}
-use Rattle.std.proofs.lemmas.List.{append-nil, take-append-drop, take-take, drop_more, take_more, take_all, length-take, length-take-le, get_or-take}
+use Rattle.std.proofs.lemmas.List.{append-nil, take-append-drop, take-take, drop_more, take_more, take_all, length-take-le, get_or-take}
 use Rattle.dm_disposition.specs.Grammar.{Field, Spells}
 use Rattle.dm_disposition.specs.Names.{Named, named_of, IsSpelled, AreApart}
 use Rattle.dm_disposition.specs.Told.{HasText, IsExtended, MaybeExtended, PlainOf, ExtendedOf}
@@ -14,12 +14,11 @@ use Rattle.dm_disposition.specs.declared.DispFault.{DispFault}
 use Rattle.dm_disposition.specs.declared.DispFault.TheVariants.{NotGrammar, Repeated, NoMemory}
 use Rattle.dm_disposition.specs.declared.Disposition.{Disposition}
 use Rattle.dm_disposition.proofs.NameLemmas.{of_spelled, one_text}
-use Rattle.dm_disposition.specs.Fronts.{BeginsValue, IsLongestFront, IsStuckAt}
+use Rattle.dm_disposition.specs.Fronts.{BeginsValue, IsStuckAt}
 use Rattle.dm_disposition.specs.Machine.{next, is_end, Notes, settled, taken, run, nothing, StopsAt, EndsWith}
 use Rattle.dm_disposition.specs.declared.state.State.{State}
-use Rattle.dm_disposition.specs.declared.state.State.TheVariants.{Start}
 use Rattle.dm_disposition.proofs.SoundLemmas.{StartTail, run_back, ends_here, some_rest}
-use Rattle.dm_disposition.proofs.RunLemmas.{run_one, run_append, Ended, field_run}
+use Rattle.dm_disposition.proofs.RunLemmas.{run_one, run_append, field_run}
 
 -- one byte more of a text
 pub run_more : (text : List ℕ) (i b : ℕ) (n : Notes) (s : State) → i < length text → b ≡ get_or text i 0 → run nothing 0 (take i text) ≡ Some n → next n.state b ≡ Some s → run nothing 0 (take (i + 1) text) ≡ Some (taken n i b s)

@@ -1,11 +1,11 @@
 -- Parameters that are compared by their names.
 use Rattle.std.proofs.Common.{◌≡◌, ℕ, zero, suc, ◌+◌, ◌<◌, Bool, true, false, List, [], ◌∷◌, ◌++◌, length, get_or, take, drop, map, MatchBool, Option, Some, None, refl, sym, ap, ◌∙◌, subst, arith}
-use Rattle.std.specs.Prelude.{IsTrue, ◌↔◌, Contains}
+use Rattle.std.specs.Prelude.{IsTrue, ◌↔◌}
 use Rattle.std.specs.List.{HoldsAt, AllWithin, Any, AllByRecursion}
 use Rattle.std.specs.Char.{to_ascii_lowercase}
-use Rattle.std.proofs.lemmas.List.{get_or_default, take-append-drop, drop_more, take_more, map-append, get_or-map, length-map, length-take, get_or-take}
+use Rattle.std.proofs.lemmas.List.{get_or_default, take-append-drop, drop_more, take_more, map-append, get_or-map, length-map}
 use Rattle.std.proofs.lemmas.Iterator.Search.{true_from_Any}
-use Rattle.dm_disposition.specs.Grammar.{Value, IsValue, value_text, Parameter as Spelled, IsParameter, Piece, IsPiece, piece_text, IsOptional, Field, IsField}
+use Rattle.dm_disposition.specs.Grammar.{Value, IsValue, value_text, Parameter as Spelled, Piece, IsPiece, piece_text, IsOptional, Field, IsField}
 use Rattle.dm_disposition.specs.Names.{Named, IsSpelled, SameName, AreApart, IsFirstRepeat, named_here, named_from, named_of}
 use Rattle.dm_disposition.specs.Told.{HasText}
 use Rattle.dm_disposition.specs.Views.{named}

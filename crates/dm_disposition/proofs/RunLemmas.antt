@@ -1,16 +1,15 @@
 -- Each value of the grammar is run through, and gives its kind and its parameters.
-use Rattle.std.proofs.Common.{◌≡◌, ℕ, suc, ◌+◌, ◌<◌, ◌≤◌, Bool, true, false, cond, eqb, List, [], ◌∷◌, ◌++◌, length, Option, Some, None, refl, sym, ap, ◌∙◌, subst, append_assoc, arith, add-zero}
+use Rattle.std.proofs.Common.{◌≡◌, ℕ, suc, ◌+◌, Bool, true, List, [], ◌∷◌, ◌++◌, length, Option, Some, None, refl, sym, ap, ◌∙◌, subst, append_assoc, arith, add-zero}
 use Rattle.std.specs.Prelude.{option_and_then}
 use Rattle.std.specs.List.{flat_map, AllByRecursion}
 use Rattle.std.proofs.lemmas.List.{append-nil, length-append}
-use Rattle.std.proofs.lemmas.Option.{same_Some}
-use Rattle.dm_disposition.specs.Bytes.{is_blank, is_token_byte, is_quoted_text, is_escapable, Each, IsToken}
-use Rattle.dm_disposition.specs.Grammar.{Mark, plain, escaped, mark_text, IsMark, Value, token, quoted, value_text, IsValue, Parameter, parameter_text, IsParameter, Piece, optional_text, IsOptional, piece_text, IsPiece, Field, field_text, IsField, Spells}
-use Rattle.dm_disposition.specs.Names.{Named, named_here, named_from, named_of}
-use Rattle.dm_disposition.specs.Machine.{between, equals, next, is_end, Notes, settled, taken, run, nothing}
+use Rattle.dm_disposition.specs.Bytes.{is_blank, is_token_byte, Each, IsToken}
+use Rattle.dm_disposition.specs.Grammar.{Mark, plain, escaped, mark_text, IsMark, Value, token, quoted, value_text, IsValue, Parameter, parameter_text, IsParameter, Piece, IsOptional, piece_text, IsPiece, Field, Spells}
+use Rattle.dm_disposition.specs.Names.{Named, named_from, named_of}
+use Rattle.dm_disposition.specs.Machine.{next, is_end, Notes, settled, taken, run, nothing}
 use Rattle.dm_disposition.specs.declared.state.State.{State}
 use Rattle.dm_disposition.specs.declared.state.State.TheVariants.{Start, Kind, Between, Semicolon, Name, AfterName, Equals, Token, Quoted, Escaped, Closed}
-use Rattle.dm_disposition.proofs.ClassLemmas.{blank_no_token, blank_outside, token_no_blank, token_not, text_not}
+use Rattle.dm_disposition.proofs.ClassLemmas.{blank_no_token, token_no_blank, token_not, text_not}
 use Rattle.dm_disposition.proofs.SpellLemmas.{parameter_regroup, pieces_regroup, quoted_regroup, marks_regroup}
 
 abbrev pub notes : State → List ℕ → List Named → ℕ → List ℕ → List ℕ → Notes

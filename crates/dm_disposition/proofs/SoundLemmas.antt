@@ -1,15 +1,15 @@
 -- What may stand behind each state, and that a byte before it leads back.
-use Rattle.std.proofs.Common.{◌≡◌, ℕ, ◌+◌, ◌<◌, Bool, true, false, cond, eqb, List, [], ◌∷◌, ◌++◌, length, Option, Some, None, refl, sym, ap, ◌∙◌, subst, append_assoc, arith}
+use Rattle.std.proofs.Common.{◌≡◌, ℕ, ◌+◌, Bool, true, false, cond, eqb, List, [], ◌∷◌, ◌++◌, Option, Some, None, refl, sym, ap, ◌∙◌, subst, arith}
 use Rattle.std.specs.Prelude.{option_and_then}
 use Rattle.std.specs.List.{flat_map, AllByRecursion}
 use Rattle.std.proofs.lemmas.Bool.{eqb-true}
 use Rattle.std.proofs.lemmas.Option.{same_Some}
-use Rattle.dm_disposition.specs.Bytes.{is_blank, is_token_byte, is_quoted_text, is_escapable, Each, IsToken}
-use Rattle.dm_disposition.specs.Grammar.{Mark, plain, escaped, mark_text, IsMark, Value, token, quoted, value_text, IsValue, Parameter, parameter_text, IsParameter, Piece, optional_text, IsOptional, piece_text, IsPiece, Field, field_text, IsField, Spells}
+use Rattle.dm_disposition.specs.Bytes.{is_blank, is_token_byte, is_quoted_text, is_escapable, Each}
+use Rattle.dm_disposition.specs.Grammar.{Mark, plain, escaped, mark_text, IsMark, Value, token, quoted, value_text, IsValue, Parameter, Piece, optional_text, IsOptional, piece_text, IsPiece, Field, Spells}
 use Rattle.dm_disposition.specs.Machine.{between, equals, next, is_end, Notes, taken, run}
 use Rattle.dm_disposition.specs.declared.state.State.{State}
 use Rattle.dm_disposition.specs.declared.state.State.TheVariants.{Start, Kind, Between, Semicolon, Name, AfterName, Equals, Token, Quoted, Escaped, Closed}
-use Rattle.dm_disposition.proofs.SpellLemmas.{parameter_regroup, pieces_regroup, quoted_regroup, marks_regroup}
+use Rattle.dm_disposition.proofs.SpellLemmas.{parameter_regroup, pieces_regroup, quoted_regroup}
 
 -- pieces, and blanks
 pub record Tail (w : List ℕ) : Type 0 where

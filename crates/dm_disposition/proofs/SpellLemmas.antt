@@ -1,7 +1,7 @@
 -- The texts of the grammar's parts, regrouped.
-use Rattle.std.proofs.Common.{◌≡◌, ℕ, List, [], ◌∷◌, ◌++◌, Option, Some, None, refl, sym, ap, ◌∙◌, append_assoc}
+use Rattle.std.proofs.Common.{◌≡◌, ℕ, List, [], ◌∷◌, ◌++◌, ap, ◌∙◌, append_assoc}
 use Rattle.std.specs.List.{flat_map}
-use Rattle.dm_disposition.specs.Grammar.{Mark, mark_text, Value, token, quoted, value_text, Parameter, parameter_text, Piece, optional_text, piece_text}
+use Rattle.dm_disposition.specs.Grammar.{Mark, mark_text, quoted, value_text, Parameter, parameter_text, Piece, optional_text, piece_text}
 
 pub parameter_regroup : (p : Parameter) (w : List ℕ) → parameter_text p ++ w ≡ p.name ++ (p.before ++ 61 ∷ (p.after ++ (value_text p.value ++ w)))
 parameter_regroup p w =

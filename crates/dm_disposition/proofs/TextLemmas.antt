@@ -1,17 +1,17 @@
 -- The texts of values, read.
-use Rattle.std.proofs.Common.{◌≡◌, ℕ, zero, suc, ◌+◌, ◌<◌, ◌≤◌, Bool, true, false, cond, eqb, List, [], ◌∷◌, ◌++◌, length, get_or, take, drop, map, codes, ◌⊎◌, inl, inr, Option, Some, None, Result, Ok, Err, refl, sym, ap, ◌∙◌, subst, append_assoc, arith}
+use Rattle.std.proofs.Common.{◌≡◌, ℕ, zero, suc, ◌+◌, ◌<◌, ◌≤◌, Bool, true, false, cond, eqb, List, [], ◌∷◌, ◌++◌, length, get_or, take, drop, map, ◌⊎◌, inl, inr, Option, Some, None, Result, Ok, Err, refl, sym, ap, ◌∙◌, subst, append_assoc}
 use Rattle.std.specs.Prelude.{IfOk, IsTrue, ◌↔◌, option_and_then}
 use Rattle.std.specs.List.{flat_map, AllByRecursion}
-use Rattle.std.specs.Char.{is_ascii_hexdigit, to_ascii_lowercase, encode_utf8}
+use Rattle.std.specs.Char.{is_ascii_hexdigit, encode_utf8}
 use Rattle.std.specs.Str.{encode_utf8_all}
 use Rattle.std.proofs.lemmas.Bool.{both_ways, false≢true, eqb-true, eq-eqb, not-false}
 use Rattle.std.proofs.lemmas.Option.{same_Some, none-some}
 use Rattle.std.proofs.lemmas.List.{append-nil, append_cancel_right, take_more, at_drop_more, at_drop_all}
 use Rattle.std.proofs.lemmas.Str.{encodes-append}
 use Rattle.percent_encoding.specs.Percent.{percent_decode}
-use Rattle.dm_disposition.specs.Bytes.{is_token_byte, is_quoted_text, is_escapable, Each, Stops, Cuts, IsToken}
+use Rattle.dm_disposition.specs.Bytes.{is_token_byte, is_quoted_text, Each, Stops, Cuts, IsToken}
 use Rattle.dm_disposition.specs.Grammar.{Mark, plain, escaped, mark_text, byte_of, IsMark, Value, token, quoted, value_text, bytes_of, IsValue}
-use Rattle.dm_disposition.specs.Told.{is_attr_byte, is_no_quote, Char, attr, percent, char_text, IsChar, AreChars, ReadsAs, IsPlain, ExtParts, InCharset, IsExtended, MaybeInCharset, MaybeExtended}
+use Rattle.dm_disposition.specs.Told.{is_attr_byte, is_no_quote, Char, attr, percent, char_text, IsChar, AreChars, ReadsAs, IsPlain, ExtParts, InCharset, MaybeInCharset, MaybeExtended}
 use Rattle.dm_disposition.specs.Machine.{unescaped, digits_after, digits_behind}
 use Rattle.dm_disposition.proofs.ClassLemmas.{text_not, not_this}
 

@@ -1,7 +1,7 @@
 -- What a reading of the value makes of the answer.
-use Rattle.std.specs.Prelude.{◌≡◌, ℕ, Option, Result, Ok, Err, List}
+use Rattle.std.specs.Prelude.{◌≡◌, ℕ, Result, Ok, Err, List}
 use Rattle.dm_disposition.specs.Grammar.{Field, Spells}
-use Rattle.dm_disposition.specs.Names.{Named, named_of, AreApart, IsFirstRepeat}
+use Rattle.dm_disposition.specs.Names.{named_of, AreApart, IsFirstRepeat}
 use Rattle.dm_disposition.specs.Told.{PlainOf, ExtendedOf}
 use Rattle.dm_disposition.specs.Fronts.{IsStuckAt}
 use Rattle.dm_disposition.specs.declared.Disposition.{Disposition}

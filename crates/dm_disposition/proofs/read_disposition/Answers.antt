@@ -1,4 +1,4 @@
-use Rattle.std.proofs.Common.{◌≡◌, ℕ, Option, List, map, subst, sym, ◌∙◌}
+use Rattle.std.proofs.Common.{List, map, subst, ◌∙◌}
 use Rattle.std.specs.List.{AllByRecursion}
 use Rattle.dm_disposition.specs.Names.{Named, IsSpelled, AreApart, IsFirstRepeat}
 use Rattle.dm_disposition.specs.Told.{PlainOf, ExtendedOf}

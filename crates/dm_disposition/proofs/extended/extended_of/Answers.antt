@@ -1,4 +1,4 @@
-use Rattle.std.proofs.Common.{◌≡◌, ℕ, List}
+use Rattle.std.proofs.Common.{◌≡◌}
 use Rattle.percent_encoding.specs.Percent.{percent_decode}
 use Rattle.dm_disposition.proofs.TextLemmas.{extended_is}
 use Rattle.dm_disposition.proofs.extended.extended_of.Goals as goal

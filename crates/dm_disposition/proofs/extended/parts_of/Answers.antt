@@ -1,4 +1,4 @@
-use Rattle.std.proofs.Common.{ℕ, List, sym, subst}
+use Rattle.std.proofs.Common.{sym, subst}
 use Rattle.std.proofs.lemmas.Bool.{both_ways}
 use Rattle.dm_disposition.specs.Bytes.{is_token_byte, Each}
 use Rattle.dm_disposition.specs.Told.{is_no_quote, AreChars}

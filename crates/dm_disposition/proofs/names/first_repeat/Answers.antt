@@ -1,4 +1,4 @@
-use Rattle.std.proofs.Common.{◌≡◌, ℕ, true, List, take, subst, sym, arith}
+use Rattle.std.proofs.Common.{ℕ, List, take, subst, sym, arith}
 use Rattle.std.specs.List.{Any}
 use Rattle.std.proofs.lemmas.Bool.{both_ways}
 use Rattle.dm_disposition.proofs.NameLemmas.{Has, apart_more, repeat_is}

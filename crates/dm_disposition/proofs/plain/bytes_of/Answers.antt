@@ -1,9 +1,9 @@
-use Rattle.std.proofs.Common.{◌≡◌, ℕ, List, false}
+use Rattle.std.proofs.Common.{◌≡◌, ℕ, false}
 use Rattle.std.specs.Global.{Vec}
 use Rattle.std.proofs.lemmas.Result.{IfOk-weaker}
 use Rattle.dm_disposition.specs.Grammar.{Value, IsValue, value_text, bytes_of}
 use Rattle.dm_disposition.specs.Machine.{unescaped}
-use Rattle.dm_disposition.proofs.TextLemmas.{quoted_bytes, token_bytes}
+use Rattle.dm_disposition.proofs.TextLemmas.{quoted_bytes}
 use Rattle.dm_disposition.proofs.plain.bytes_of.Goals as goal
 
 pub returns-in-Some : goal.returns-in-Some

@@ -1,4 +1,4 @@
-use Rattle.std.proofs.Common.{arith, refl}
+use Rattle.std.proofs.Common.{arith}
 use Rattle.std.specs.Prelude.{string_bytes}
 use Rattle.dm_disposition.proofs.TextLemmas.{latin_more}
 use Rattle.dm_disposition.proofs.plain.latin.Goals as goal

@@ -1,4 +1,4 @@
-use Rattle.std.proofs.Common.{◌≡◌, ℕ, List, length, take, Some, inr, ap, sym, ◌∙◌, subst, refl, arith}
+use Rattle.std.proofs.Common.{◌≡◌, ℕ, length, take, Some, inr, ap, sym, ◌∙◌, subst, refl, arith}
 use Rattle.dm_disposition.specs.Machine.{run, nothing}
 use Rattle.dm_disposition.specs.Views.{view}
 use Rattle.dm_disposition.proofs.FieldLemmas.{run_more}
