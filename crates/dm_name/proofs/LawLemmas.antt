@@ -1,16 +1,16 @@
 -- No cleaned name and none of its forms is a part's name: the name itself doesn't end as one does, a number stands
 -- in front of its extension alone, and a name that was shortened is longer than any part's.
-use Rattle.std.proofs.Common.{◌≡◌, ℕ, zero, suc, ◌+◌, ◌-◌, ◌<◌, ◌≤◌, Bool, true, false, cond, eqb, List, [], ◌∷◌, ◌++◌, length, take, drop, map, codes, ◌⊎◌, inl, inr, refl, sym, ap, ◌∙◌, subst, append_assoc, arith}
+use Rattle.std.proofs.Common.{◌≡◌, ℕ, zero, suc, ◌+◌, ◌-◌, ◌<◌, ◌≤◌, Bool, true, false, cond, eqb, List, [], ◌∷◌, ◌++◌, length, take, drop, map, codes, inl, inr, refl, sym, ap, ◌∙◌, subst, append_assoc, arith}
 use Rattle.std.specs.Prelude.{nat_le, nat_lt, ◌&&◌, not, IsTrue, ◌↔◌}
 use Rattle.std.specs.List.{AllByRecursion, suffix_len, list_all}
 use Rattle.std.specs.Str.{bytes_eq}
 use Rattle.std.specs.Fmt.{decimal}
 use Rattle.std.specs.Char.{to_ascii_lowercase}
-use Rattle.std.proofs.lemmas.Bool.{cases_lt, cases_Bool, both_ways, false_from_ne_true, and_parts, leb-true, leb-false, ltb-true, false≢true}
-use Rattle.std.proofs.lemmas.Bool.Decides.{nat_tests, same_from_decides}
-use Rattle.std.proofs.lemmas.List.{length-append, length-take, length-take-le, length-drop, take-append-drop, drop_at, drop-drop, drop-append-le, map-append, same_from_push}
+use Rattle.std.proofs.lemmas.Bool.{cases_lt, both_ways, false_from_ne_true, and_parts, leb-true, leb-false, false≢true}
+use Rattle.std.proofs.lemmas.Bool.Decides.{same_from_decides}
+use Rattle.std.proofs.lemmas.List.{length-append, length-take-le, length-drop, take-append-drop, drop_at, drop-drop, drop-append-le, map-append, same_from_push}
 use Rattle.std.proofs.lemmas.Slice.Eq.{bytes_eq-Decides}
-use Rattle.dm_name.specs.Clean.{part_end, ends_as_part, guarded, or_download, is_no_dot, stem_length_by, stem_length, stem, extension, begins_character, cut_length, shortened, without_dot, trimmed, harmless_end, cleaned}
+use Rattle.dm_name.specs.Clean.{part_end, ends_as_part, guarded, or_download, is_no_dot, stem_length, stem, extension, begins_character, cut_length, shortened, without_dot, trimmed, harmless_end, cleaned}
 use Rattle.dm_name.specs.Forms.{form}
 use Rattle.dm_name.specs.Laws.{IsPartName}
 

@@ -1,4 +1,4 @@
-use Rattle.std.proofs.Common.{ℕ, List, subst, ◌∙◌, below_more}
+use Rattle.std.proofs.Common.{subst, ◌∙◌, below_more}
 use Rattle.dm_name.specs.Forms.{form, IsTaken}
 use Rattle.dm_name.proofs.forms.unique_name.Goals as goal
 
