@@ -1,0 +1,7 @@
+pub mod ClassLemmas
+pub mod SpellLemmas
+pub mod SoundLemmas
+pub mod RunLemmas
+pub mod FieldLemmas
+pub mod NameLemmas
+pub mod TextLemmas

@@ -1,0 +1,4 @@
+pub mod Clean
+pub mod Forms
+pub mod Wish
+pub mod Laws

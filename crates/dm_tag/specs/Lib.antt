@@ -1,0 +1,7 @@
+pub mod Runs
+pub mod Number
+pub mod Tag
+pub mod Range
+pub mod Length
+pub mod Units
+pub mod Laws
