@@ -293,18 +293,18 @@ module _ (bodies : List (List ℕ)) (body : List ℕ) (gate : ℕ) (fits : FitsC
       let behind : List ℕ = drop (length piece) reads.text.rest in
       let shut : List ℕ = opening bodies body reads.text.gate behind in
       let bytes : overwrite reads.bytes (gate + 1) piece ≡ shut =
-          ap (λ (xs : List ℕ). overwrite xs (gate + 1) piece) was
-          ∙ ap (λ (n : ℕ). overwrite (a ++ reads.text.rest) n piece) at
-          ∙ overwrite_at_seam a reads.text.rest piece
-          ∙ ap (λ (xs : List ℕ). (a ++ xs) ++ behind) is
-          ∙ append_assoc a (cell_tail body) behind
-          ∙ append_assoc (front bodies) (reads.text.gate ∷ []) (cell_tail body ++ behind)
-          ∙ ap (λ (xs : List ℕ). front bodies ++ reads.text.gate ∷ xs) (append_assoc (in_four (length body) ++ body) (0 ∷ []) behind) in
+      ap (λ (xs : List ℕ). overwrite xs (gate + 1) piece) was
+      ∙ ap (λ (n : ℕ). overwrite (a ++ reads.text.rest) n piece) at
+      ∙ overwrite_at_seam a reads.text.rest piece
+      ∙ ap (λ (xs : List ℕ). (a ++ xs) ++ behind) is
+      ∙ append_assoc a (cell_tail body) behind
+      ∙ append_assoc (front bodies) (reads.text.gate ∷ []) (cell_tail body ++ behind)
+      ∙ ap (λ (xs : List ℕ). front bodies ++ reads.text.gate ∷ xs) (append_assoc (in_four (length body) ++ body) (0 ∷ []) behind) in
       let now_shut : bytes_at third journal_place ≡ Some shut =
-          sync_reads journal_place second third settled ∙ write_reads journal_place (gate + 1) piece reads.bytes first second reads.reads filled ∙ ap Some bytes in
+      sync_reads journal_place second third settled ∙ write_reads journal_place (gate + 1) piece reads.bytes first second reads.reads filled ∙ ap Some bytes in
       let r : List ℕ = (in_four (length body) ++ body) ++ 0 ∷ behind in
       let opens : overwrite shut gate (1 ∷ []) ≡ opening bodies body 1 behind =
-          ap (λ (n : ℕ). overwrite shut n (1 ∷ [])) reads.at ∙ overwrite_at_seam (front bodies) (reads.text.gate ∷ r) (1 ∷ []) ∙ append_assoc (front bodies) (1 ∷ []) r in
+      ap (λ (n : ℕ). overwrite shut n (1 ∷ [])) reads.at ∙ overwrite_at_seam (front bodies) (reads.text.gate ∷ r) (1 ∷ []) ∙ append_assoc (front bodies) (1 ∷ []) r in
       let all : front (bodies ++ body ∷ []) ≡ front bodies ++ cell body = ap (λ (xs : List ℕ). header ++ xs) (cells_push bodies body) in
       record {
         bytes = opening bodies body 1 behind;
