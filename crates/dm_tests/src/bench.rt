@@ -2,9 +2,9 @@
 ghost use Rattle.std.specs.Prelude.{◌≡◌, [], All, IfOk};
 ghost use Rattle.dm_edge.specs.Script.{IsGood};
 
-use dm_cli::run_words;
+use dm_cli::{Ran, run_words};
 use dm_disk::{Area, Disk, DiskFault, FailList, FailingCall, MemoryDisk, Place};
-use dm_edge::{ClockList, NetFault, NetScript, SinkMem, WireFault, WireScript};
+use dm_edge::{ClockList, Net, NetFault, NetScript, SinkMem, WireFault, WireScript};
 use dm_types::{DiskKind, Listed, NoMemory, Text};
 use std::alloc::Global;
 
@@ -72,6 +72,53 @@ pub fn disk(alloc: Global, failing: Option<u64>) -> Result<MemoryDisk, NoMemory>
     MemoryDisk::new(alloc, list, None)
 }
 
+/// An output with room for 1000 bytes.
+pub fn output(alloc: Global, failing: Option<u64>) -> Result<SinkMem, NoMemory> {
+    match failing {
+        Some(call) => SinkMem::new(alloc, 1000, &[call]),
+        None => SinkMem::new(alloc, 1000, &[]),
+    }
+}
+
+/// Runs the words.
+pub fn start<N: Net>(
+    alloc: Global,
+    words: &[Text],
+    disk: MemoryDisk,
+    net: &mut N,
+    out: &mut SinkMem,
+    errs: &mut SinkMem,
+) -> Result<Ran<MemoryDisk>, NoMemory> {
+    let mut clock = ClockList::new(alloc, &[0])?;
+    Ok(run_words(alloc, words, disk, net, &mut clock, out, errs))
+}
+
+/// What the first connection was sent.
+fn request(alloc: Global, net: &NetScript) -> Result<Text, NoMemory> {
+    match net.closed(0) {
+        Some(exchange) => exchange.sent.copy(alloc),
+        None => Ok(Text::new(alloc)),
+    }
+}
+
+fn outcome(
+    alloc: Global,
+    ran: Ran<MemoryDisk>,
+    net: &NetScript,
+    out: &SinkMem,
+    errs: &SinkMem,
+) -> Result<Outcome, NoMemory> {
+    let out = Text::from_bytes(alloc, out.written())?;
+    let errs = Text::from_bytes(alloc, errs.written())?;
+    Ok(Outcome {
+        status: ran.status,
+        out,
+        errs,
+        request: request(alloc, net)?,
+        disk: ran.disk,
+    })
+}
+
 /// Runs the words against one connection that says this stream.
 pub fn run(
     alloc: Global,
@@ -82,26 +129,10 @@ pub fn run(
 ) -> Result<Outcome, NoMemory> {
     let words = texts(alloc, words)?;
     let mut net = net(alloc, stream, failing.wire)?;
-    let mut clock = ClockList::new(alloc, &[0])?;
-    let mut out = match failing.out {
-        Some(call) => SinkMem::new(alloc, 1000, &[call])?,
-        None => SinkMem::new(alloc, 1000, &[])?,
-    };
-    let mut errs = SinkMem::new(alloc, 1000, &[])?;
-    let ran = run_words(
-        alloc, &words, disk, &mut net, &mut clock, &mut out, &mut errs,
-    );
-    let request = match net.closed(0) {
-        Some(exchange) => exchange.sent.copy(alloc)?,
-        None => Text::new(alloc),
-    };
-    Ok(Outcome {
-        status: ran.status,
-        out: Text::from_bytes(alloc, out.written())?,
-        errs: Text::from_bytes(alloc, errs.written())?,
-        request,
-        disk: ran.disk,
-    })
+    let mut out = output(alloc, failing.out)?;
+    let mut errs = output(alloc, None)?;
+    let ran = start(alloc, &words, disk, &mut net, &mut out, &mut errs)?;
+    outcome(alloc, ran, &net, &out, &errs)
 }
 
 fn place(alloc: Global, name: &[u8]) -> Result<Place, NoMemory> {
@@ -121,7 +152,21 @@ pub fn length_of(
     Ok(disk.length(&place).unwrap_or(None))
 }
 
-/// Whether the file of this name holds just these bytes.
+fn make(disk: &mut MemoryDisk, place: &Place) -> Result<(), DiskFault> {
+    match disk.length(place)? {
+        Some(_) => Err(DiskFault(DiskKind::Failed)),
+        None => disk.create(place),
+    }
+}
+
+fn read(disk: &mut MemoryDisk, place: &Place, buf: &mut [u8]) -> Result<usize, DiskFault> {
+    match disk.length(place)? {
+        Some(_) => disk.read_at(place, 0, buf),
+        None => Err(DiskFault(DiskKind::Failed)),
+    }
+}
+
+/// Whether the file of this name holds just these bytes, at most 999.
 pub fn holds(
     alloc: Global,
     disk: &mut MemoryDisk,
@@ -130,20 +175,17 @@ pub fn holds(
 ) -> Result<bool, NoMemory> {
     let place = place(alloc, name)?;
     let mut buffer = vec![in alloc; 0; 1000]?;
-    match disk.length(&place) {
-        Ok(Some(length)) => match disk.read_at(&place, 0, &mut buffer) {
-            Ok(count) => Ok(length == bytes.len() as u64 && &buffer[..count] == bytes),
-            Err(_) => Ok(false),
+    match read(disk, &place, &mut buffer) {
+        Ok(count) => match buffer.get(..count) {
+            Some(front) => Ok(front == bytes),
+            None => Ok(false),
         },
-        _ => Ok(false),
+        Err(_) => Ok(false),
     }
 }
 
 /// Puts an empty file of this name on the disk.
 pub fn touch(alloc: Global, disk: &mut MemoryDisk, name: &[u8]) -> Result<bool, NoMemory> {
     let place = place(alloc, name)?;
-    match disk.length(&place) {
-        Ok(None) => Ok(disk.create(&place).is_ok()),
-        _ => Ok(false),
-    }
+    Ok(make(disk, &place).is_ok())
 }

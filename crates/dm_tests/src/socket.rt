@@ -1,8 +1,9 @@
 // The first file over a real socket.
-use crate::bench::{disk, holds, texts};
-use dm_cli::run_words;
-use dm_edge::{ClockList, SinkMem};
+use crate::bench::{disk, holds, output, start, texts};
+use dm_edge::Net;
 use dm_edge_real::TcpNet;
+use dm_types::NoMemory;
+use std::alloc::Global;
 use std::io::{Read, Write};
 use std::net::TcpListener;
 use std::test::Fail;
@@ -17,6 +18,17 @@ fn serve(listener: &TcpListener) -> io::Result<()> {
     stream.write_all(b"world")
 }
 
+/// Whether a file is brought from this address, and told.
+fn arrives<N: Net>(alloc: Global, address: &[u8], net: &mut N) -> Result<bool, NoMemory> {
+    let words = texts(alloc, &[b"get", b"--name", b"hello.txt", address])?;
+    let there = disk(alloc, None)?;
+    let mut out = output(alloc, None)?;
+    let mut errs = output(alloc, None)?;
+    let mut ran = start(alloc, &words, there, net, &mut out, &mut errs)?;
+    let is_told = ran.status == 0 && out.written() == b"1 complete 11 11 hello.txt\n".as_slice();
+    Ok(is_told && holds(alloc, &mut ran.disk, b"hello.txt", b"hello world")?)
+}
+
 #[test]
 fn a_whole_reply_comes_over_tcp(rt: HostRuntime) -> Result<(), Fail> {
     let alloc = rt.alloc();
@@ -26,27 +38,8 @@ fn a_whole_reply_comes_over_tcp(rt: HostRuntime) -> Result<(), Fail> {
     let server = thread::spawn(&rt, move || serve(&listener))
         .ok()
         .expect(&rt, "a thread");
-    let words = texts(
-        alloc,
-        &[b"get", b"--name", b"hello.txt", address.as_bytes()],
-    )?;
     let mut net = TcpNet::new(rt.clone()?);
-    let mut clock = ClockList::new(alloc, &[0])?;
-    let mut out = SinkMem::new(alloc, 1000, &[])?;
-    let mut errs = SinkMem::new(alloc, 1000, &[])?;
-    let ran = run_words(
-        alloc,
-        &words,
-        disk(alloc, None)?,
-        &mut net,
-        &mut clock,
-        &mut out,
-        &mut errs,
-    );
+    assert!(rt; arrives(alloc, address.as_bytes(), &mut net)?);
     server.join(&rt).expect(&rt, "is served");
-    let mut kept = ran.disk;
-    assert_eq!(rt; ran.status, 0);
-    assert_eq!(rt; out.written(), b"1 complete 11 11 hello.txt\n".as_slice());
-    assert!(rt; holds(alloc, &mut kept, b"hello.txt", b"hello world")?);
     Ok(())
 }
