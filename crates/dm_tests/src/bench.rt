@@ -101,7 +101,7 @@ fn request(alloc: Global, net: &NetScript) -> Result<Text, NoMemory> {
     }
 }
 
-fn outcome(
+fn collect(
     alloc: Global,
     ran: Ran<MemoryDisk>,
     net: &NetScript,
@@ -132,7 +132,7 @@ pub fn run(
     let mut out = output(alloc, failing.out)?;
     let mut errs = output(alloc, None)?;
     let ran = start(alloc, &words, disk, &mut net, &mut out, &mut errs)?;
-    outcome(alloc, ran, &net, &out, &errs)
+    collect(alloc, ran, &net, &out, &errs)
 }
 
 fn place(alloc: Global, name: &[u8]) -> Result<Place, NoMemory> {
