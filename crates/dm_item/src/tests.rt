@@ -177,109 +177,114 @@ fn each_kind_comes_in_its_phases(rt: HostRuntime) -> Result<(), Fail> {
     Ok(())
 }
 
+/// The answer of an entry that is let go.
+fn take(items: &mut Items, entry: Entry) -> Result<(), ApplyFault> {
+    items.apply(&entry)
+}
+
+fn began(id: u32, attempt: u32, by: By) -> Entry {
+    Entry::Began {
+        id: ItemId(id),
+        attempt: Attempt(attempt),
+        by,
+        at: 6,
+    }
+}
+
+/// A list with item 1 after its first attempt, which was broken off after three bytes.
+fn broken_off(rt: &impl Abort, alloc: Global) -> Items {
+    let mut items = Items::new(alloc, 1).expect(rt, "memory");
+    let opened = Entry::Reopened { next: 1, at: 0 };
+    let progress = Entry::Progress {
+        id: ItemId(1),
+        slices: slices(rt, alloc, 3, false),
+    };
+    let broke = Entry::Broke {
+        id: ItemId(1),
+        reason: Reason::ServerContentLengthMismatch,
+    };
+    take(&mut items, opened).expect(rt, "opened");
+    take(&mut items, added(rt, alloc, 1, b"w1")).expect(rt, "added");
+    take(&mut items, began(1, 1, By::User)).expect(rt, "began");
+    take(&mut items, described(rt, alloc, 1, b"a")).expect(rt, "described");
+    take(&mut items, progress).expect(rt, "progress");
+    take(&mut items, broke).expect(rt, "broke");
+    items
+}
+
 #[test]
 fn an_item_is_brought(rt: HostRuntime) -> Result<(), Fail> {
-    let mut items = Items::new(rt.alloc(), 1)?;
-    let entries = [
-        Entry::Reopened { next: 1, at: 0 },
-        added(&rt, rt.alloc(), 1, b"w1"),
-        Entry::Began {
-            id: ItemId(1),
-            attempt: Attempt(1),
-            by: By::User,
-            at: 6,
-        },
-        described(&rt, rt.alloc(), 1, b"a"),
-        Entry::Progress {
-            id: ItemId(1),
-            slices: slices(&rt, rt.alloc(), 3, false),
-        },
-        Entry::Broke {
-            id: ItemId(1),
-            reason: Reason::ServerContentLengthMismatch,
-        },
-    ];
-    assert_eq!(rt; items.apply_all(&entries), Ok(()));
+    let mut items = broken_off(&rt, rt.alloc());
     assert_eq!(rt; items.mode(ItemId(1)), Some(Mode::ImmediateContinue));
-    let more = [
-        Entry::Began {
-            id: ItemId(1),
-            attempt: Attempt(2),
-            by: By::Itself,
-            at: 7,
-        },
-        entry(&rt, rt.alloc(), 4),
-        entry(&rt, rt.alloc(), 9),
-        entry(&rt, rt.alloc(), 10),
-    ];
-    assert_eq!(rt; items.apply_all(&more), Ok(()));
+    assert_eq!(rt; take(&mut items, began(1, 2, By::Itself)), Ok(()));
+    for kind in [4, 9, 10] {
+        assert_eq!(rt; take(&mut items, entry(&rt, rt.alloc(), kind)), Ok(()));
+    }
     let item = items.get(ItemId(1)).ok_or("item 1")?;
     assert_eq!(rt; item.phase, Phase::Complete);
-    assert_eq!(rt; item.attempt, Attempt(2));
-    assert_eq!(rt; item.autos, 1);
+    assert_eq!(rt; (item.attempt, item.autos, item.at_ms), (Attempt(2), 1, 9));
     assert_eq!(rt; item.have, Some(DIGEST));
-    assert_eq!(rt; item.at_ms, 9);
-    assert_eq!(rt; items.next(), 2);
-    assert_eq!(rt; items.count(), 1);
-    assert_eq!(rt; items.by_word(b"w1"), Some(ItemId(1)));
-    assert_eq!(rt; items.by_word(b""), None);
-    assert_eq!(rt; items.mode(ItemId(1)), Some(Mode::Invalid));
-    assert_eq!(rt; items.mode(ItemId(2)), None);
-    assert_eq!(rt;
-        items.apply(&added(&rt, rt.alloc(), 2, b"w2")),
-        Err(ApplyFault::Full(1))
-    );
-    assert_eq!(rt;
-        items.apply(&Entry::Asked { id: ItemId(2) }),
-        Err(ApplyFault::NoItem(ItemId(2)))
-    );
-    assert_eq!(rt; items.apply(&entry(&rt, rt.alloc(), 12)), Ok(()));
+    assert_eq!(rt; take(&mut items, entry(&rt, rt.alloc(), 12)), Ok(()));
     assert_eq!(rt; items.count(), 0);
     Ok(())
 }
 
 #[test]
-fn further_conditions(rt: HostRuntime) -> Result<(), Fail> {
+fn items_are_looked_up(rt: HostRuntime) -> Result<(), Fail> {
+    let items = broken_off(&rt, rt.alloc());
+    assert_eq!(rt; (items.next(), items.count()), (2, 1));
+    assert_eq!(rt; items.by_word(b"w1"), Some(ItemId(1)));
+    assert_eq!(rt; items.by_word(b""), None);
+    assert_eq!(rt; items.mode(ItemId(2)), None);
+    assert!(rt; items.get(ItemId(2)).is_none());
+    Ok(())
+}
+
+#[test]
+fn a_full_list_refuses(rt: HostRuntime) -> Result<(), Fail> {
+    let mut items = broken_off(&rt, rt.alloc());
+    let full = take(&mut items, added(&rt, rt.alloc(), 2, b"w2"));
+    assert_eq!(rt; full, Err(ApplyFault::Full(1)));
+    let absent = take(&mut items, Entry::Asked { id: ItemId(2) });
+    assert_eq!(rt; absent, Err(ApplyFault::NoItem(ItemId(2))));
+    Ok(())
+}
+
+#[test]
+fn a_further_condition_fails(rt: HostRuntime) -> Result<(), Fail> {
     let broken = Phase::Interrupted(Reason::NetworkTimeout);
-    assert_eq!(rt;
-        answer(&rt, rt.alloc(), 3, Phase::Running),
-        Err(ApplyFault::Unlawful(3))
-    );
-    assert_eq!(rt;
-        answer(&rt, rt.alloc(), 8, broken),
-        Err(ApplyFault::Unlawful(8))
-    );
-    assert_eq!(rt; answer(&rt, rt.alloc(), 2, Phase::Waiting), Ok(()));
+    let rows = [(3, Phase::Running), (8, broken), (15, Phase::Cancelled)];
+    for (kind, phase) in rows {
+        assert!(rt; answer(&rt, rt.alloc(), kind, phase).is_err());
+    }
     let mut items = in_phase(&rt, rt.alloc(), Phase::Running);
+    let word = take(&mut items, added(&rt, rt.alloc(), 4, b"w1"));
+    assert_eq!(rt; word, Err(ApplyFault::Unlawful(1)));
+    assert_eq!(rt; take(&mut items, added(&rt, rt.alloc(), 4, b"")), Ok(()));
+    assert_eq!(rt; take(&mut items, began(4, 1, By::User)), Ok(()));
+    let name = take(&mut items, described(&rt, rt.alloc(), 4, b"A"));
+    assert_eq!(rt; name, Err(ApplyFault::Unlawful(3)));
     assert_eq!(rt;
-        items.apply(&added(&rt, rt.alloc(), 4, b"w1")),
-        Err(ApplyFault::Unlawful(1))
+        take(&mut items, described(&rt, rt.alloc(), 4, b"b")),
+        Ok(())
     );
-    assert_eq!(rt; items.apply(&added(&rt, rt.alloc(), 4, b"")), Ok(()));
+    Ok(())
+}
+
+#[test]
+fn a_reopened_list_runs_nothing(rt: HostRuntime) -> Result<(), Fail> {
+    let mut items = in_phase(&rt, rt.alloc(), Phase::Running);
+    let early = take(&mut items, Entry::Reopened { next: 3, at: 0 });
+    assert_eq!(rt; early, Err(ApplyFault::Unlawful(13)));
     assert_eq!(rt;
-        items.apply(&Entry::Reopened { next: 4, at: 0 }),
-        Err(ApplyFault::Unlawful(13))
+        take(&mut items, Entry::Reopened { next: 4, at: 0 }),
+        Ok(())
     );
-    assert_eq!(rt; items.apply(&Entry::Reopened { next: 5, at: 0 }), Ok(()));
     let item = items.get(ItemId(1)).ok_or("item 1")?;
     assert_eq!(rt; item.phase, Phase::Interrupted(Reason::Crash));
     assert_eq!(rt; item.reason, Some(Reason::Crash));
-    assert_eq!(rt;
-        items.apply(&restored(&rt, rt.alloc(), Phase::Waiting)),
-        Err(ApplyFault::Unlawful(14))
-    );
-    let begin = Entry::Began {
-        id: ItemId(4),
-        attempt: Attempt(1),
-        by: By::User,
-        at: 6,
-    };
-    assert_eq!(rt; items.apply(&begin), Ok(()));
-    assert_eq!(rt;
-        items.apply(&described(&rt, rt.alloc(), 4, b"A")),
-        Err(ApplyFault::Unlawful(3))
-    );
-    assert_eq!(rt; items.apply(&described(&rt, rt.alloc(), 4, b"b")), Ok(()));
+    let again = take(&mut items, restored(&rt, rt.alloc(), Phase::Waiting));
+    assert_eq!(rt; again, Err(ApplyFault::Unlawful(14)));
     Ok(())
 }
 
@@ -290,8 +295,7 @@ fn a_short_history_leaves_the_same_items(rt: HostRuntime) -> Result<(), Fail> {
     assert_eq!(rt; entries.count(), 2);
     let mut again = Items::new(rt.alloc(), 9)?;
     assert_eq!(rt; again.apply_all(entries.items()), Ok(()));
-    assert_eq!(rt; again.next(), 4);
-    assert_eq!(rt; again.count(), 1);
+    assert_eq!(rt; (again.next(), again.count()), (4, 1));
     assert_eq!(rt; again.mode(ItemId(1)), items.mode(ItemId(1)));
     Ok(())
 }
