@@ -1,7 +1,5 @@
 use crate::*;
-use dm_types::{
-    Attempt, By, Entry, Epoch, Item, ItemId, Key, Mode, Phase, Reason, Slice, Slices, Text,
-};
+use dm_types::{Attempt, By, Entry, Epoch, ItemId, Key, Mode, Phase, Reason, Slice, Slices, Text};
 use std::alloc::Global;
 use std::process::Abort;
 use std::test::Fail;
@@ -49,19 +47,18 @@ fn described(rt: &impl Abort, alloc: Global, id: u32, name: &[u8]) -> Entry {
 
 /// An entry of each kind that names item 1.
 fn entry(rt: &impl Abort, alloc: Global, kind: u8) -> Entry {
+    match kind {
+        3 => described(rt, alloc, 1, b"a"),
+        4 => progress(rt, alloc, 5, true),
+        _ => plain(kind),
+    }
+}
+
+/// The kinds that hold no text and no slices.
+fn plain(kind: u8) -> Entry {
     let id = ItemId(1);
     match kind {
-        2 => Entry::Began {
-            id,
-            attempt: Attempt(2),
-            by: By::User,
-            at: 6,
-        },
-        3 => described(rt, alloc, 1, b"a"),
-        4 => Entry::Progress {
-            id,
-            slices: slices(rt, alloc, 5, true),
-        },
+        2 => began(1, 2, By::User),
         5 => Entry::Broke {
             id,
             reason: Reason::NetworkTimeout,
@@ -85,49 +82,57 @@ fn entry(rt: &impl Abort, alloc: Global, kind: u8) -> Entry {
     }
 }
 
-/// An item in a phase, with all of its five bytes.
-fn restored(rt: &impl Abort, alloc: Global, phase: Phase) -> Entry {
-    let reason = match phase {
-        Phase::Interrupted(reason) => Some(reason),
-        Phase::Cancelled => Some(Reason::UserCanceled),
-        _ => None,
-    };
-    let have = match phase {
-        Phase::Complete => Some(DIGEST),
-        _ => None,
-    };
-    Entry::Restored {
-        item: Item {
-            id: ItemId(1),
-            word: text(rt, alloc, b"w1"),
-            first_address: text(rt, alloc, b"http://h/a"),
-            wish: Text::new(alloc),
-            digest: Some(DIGEST),
-            phase,
-            reason,
-            epoch: Epoch(1),
-            attempt: Attempt(1),
-            autos: 0,
-            begun: true,
-            key: Some(Key::Strong(text(rt, alloc, b"\"a\""))),
-            last_address: Some(text(rt, alloc, b"http://h/b")),
-            total: Some(5),
-            name: Some(text(rt, alloc, b"a")),
-            modified: Some(Text::new(alloc)),
-            slices: slices(rt, alloc, 5, true),
-            have,
-            at_ms: 5,
-        },
+/// Item 1 has this many bytes.
+fn progress(rt: &impl Abort, alloc: Global, got: u64, finished: bool) -> Entry {
+    Entry::Progress {
+        id: ItemId(1),
+        slices: slices(rt, alloc, got, finished),
     }
 }
 
-/// A list with item 1 in a phase.
-fn in_phase(rt: &impl Abort, alloc: Global, phase: Phase) -> Items {
+fn began(id: u32, attempt: u32, by: By) -> Entry {
+    Entry::Began {
+        id: ItemId(id),
+        attempt: Attempt(attempt),
+        by,
+        at: 6,
+    }
+}
+
+/// The answer of an entry that is let go.
+fn take(items: &mut Items, entry: Entry) -> Result<(), ApplyFault> {
+    items.apply(&entry)
+}
+
+/// A list with item 1 in its first attempt, described.
+fn running(rt: &impl Abort, alloc: Global) -> Items {
     let mut items = Items::new(alloc, 9).expect(rt, "memory");
-    let opened = Entry::Reopened { next: 4, at: 0 };
-    items.apply(&opened).expect(rt, "the first entry");
-    let item = restored(rt, alloc, phase);
-    items.apply(&item).expect(rt, "a sound item");
+    take(&mut items, Entry::Reopened { next: 1, at: 0 }).expect(rt, "opened");
+    take(&mut items, added(rt, alloc, 1, b"w1")).expect(rt, "added");
+    take(&mut items, began(1, 1, By::User)).expect(rt, "began");
+    take(&mut items, described(rt, alloc, 1, b"a")).expect(rt, "described");
+    items
+}
+
+/// The kinds of entries that bring a running item into a phase.
+fn way(phase: Phase) -> &'static [u8] {
+    match phase {
+        Phase::Waiting => &[4, 6, 15],
+        Phase::Running => &[4],
+        Phase::Paused => &[4, 6],
+        Phase::Finishing => &[4, 9],
+        Phase::Complete => &[4, 9, 10],
+        Phase::Cancelled => &[4, 7],
+        Phase::Interrupted(_) => &[4, 5],
+    }
+}
+
+/// A list with item 1 in a phase, with all of its five bytes.
+fn in_phase(rt: &impl Abort, alloc: Global, phase: Phase) -> Items {
+    let mut items = running(rt, alloc);
+    for kind in way(phase) {
+        take(&mut items, entry(rt, alloc, *kind)).expect(rt, "on the way");
+    }
     items
 }
 
@@ -177,122 +182,104 @@ fn each_kind_comes_in_its_phases(rt: HostRuntime) -> Result<(), Fail> {
     Ok(())
 }
 
+/// A list with item 1 broken off after three bytes.
+fn broken_off(rt: &impl Abort, alloc: Global) -> Items {
+    let mut items = running(rt, alloc);
+    let reason = Reason::ServerContentLengthMismatch;
+    let id = ItemId(1);
+    take(&mut items, progress(rt, alloc, 3, false)).expect(rt, "progress");
+    take(&mut items, Entry::Broke { id, reason }).expect(rt, "broke");
+    items
+}
+
 #[test]
 fn an_item_is_brought(rt: HostRuntime) -> Result<(), Fail> {
-    let mut items = Items::new(rt.alloc(), 1)?;
-    let entries = [
-        Entry::Reopened { next: 1, at: 0 },
-        added(&rt, rt.alloc(), 1, b"w1"),
-        Entry::Began {
-            id: ItemId(1),
-            attempt: Attempt(1),
-            by: By::User,
-            at: 6,
-        },
-        described(&rt, rt.alloc(), 1, b"a"),
-        Entry::Progress {
-            id: ItemId(1),
-            slices: slices(&rt, rt.alloc(), 3, false),
-        },
-        Entry::Broke {
-            id: ItemId(1),
-            reason: Reason::ServerContentLengthMismatch,
-        },
-    ];
-    assert_eq!(rt; items.apply_all(&entries), Ok(()));
+    let mut items = broken_off(&rt, rt.alloc());
     assert_eq!(rt; items.mode(ItemId(1)), Some(Mode::ImmediateContinue));
-    let more = [
-        Entry::Began {
-            id: ItemId(1),
-            attempt: Attempt(2),
-            by: By::Itself,
-            at: 7,
-        },
-        entry(&rt, rt.alloc(), 4),
-        entry(&rt, rt.alloc(), 9),
-        entry(&rt, rt.alloc(), 10),
-    ];
-    assert_eq!(rt; items.apply_all(&more), Ok(()));
+    assert_eq!(rt; take(&mut items, began(1, 2, By::Itself)), Ok(()));
+    for kind in [4, 9, 10] {
+        assert_eq!(rt; take(&mut items, entry(&rt, rt.alloc(), kind)), Ok(()));
+    }
     let item = items.get(ItemId(1)).ok_or("item 1")?;
     assert_eq!(rt; item.phase, Phase::Complete);
-    assert_eq!(rt; item.attempt, Attempt(2));
-    assert_eq!(rt; item.autos, 1);
+    assert_eq!(rt; (item.attempt, item.autos, item.at_ms), (Attempt(2), 1, 9));
     assert_eq!(rt; item.have, Some(DIGEST));
-    assert_eq!(rt; item.at_ms, 9);
-    assert_eq!(rt; items.next(), 2);
-    assert_eq!(rt; items.count(), 1);
-    assert_eq!(rt; items.by_word(b"w1"), Some(ItemId(1)));
-    assert_eq!(rt; items.by_word(b""), None);
-    assert_eq!(rt; items.mode(ItemId(1)), Some(Mode::Invalid));
-    assert_eq!(rt; items.mode(ItemId(2)), None);
-    assert_eq!(rt;
-        items.apply(&added(&rt, rt.alloc(), 2, b"w2")),
-        Err(ApplyFault::Full(1))
-    );
-    assert_eq!(rt;
-        items.apply(&Entry::Asked { id: ItemId(2) }),
-        Err(ApplyFault::NoItem(ItemId(2)))
-    );
-    assert_eq!(rt; items.apply(&entry(&rt, rt.alloc(), 12)), Ok(()));
+    assert_eq!(rt; take(&mut items, entry(&rt, rt.alloc(), 12)), Ok(()));
     assert_eq!(rt; items.count(), 0);
     Ok(())
 }
 
 #[test]
-fn further_conditions(rt: HostRuntime) -> Result<(), Fail> {
+fn items_are_looked_up(rt: HostRuntime) -> Result<(), Fail> {
+    let items = broken_off(&rt, rt.alloc());
+    assert_eq!(rt; (items.next(), items.count()), (2, 1));
+    assert_eq!(rt; items.by_word(b"w1"), Some(ItemId(1)));
+    assert_eq!(rt; items.by_word(b""), None);
+    assert_eq!(rt; items.mode(ItemId(2)), None);
+    assert!(rt; items.get(ItemId(2)).is_none());
+    Ok(())
+}
+
+#[test]
+fn a_full_list_refuses(rt: HostRuntime) -> Result<(), Fail> {
+    let mut items = Items::new(rt.alloc(), 1)?;
+    assert_eq!(rt; take(&mut items, added(&rt, rt.alloc(), 1, b"w1")), Ok(()));
+    let full = take(&mut items, added(&rt, rt.alloc(), 2, b"w2"));
+    assert_eq!(rt; full, Err(ApplyFault::Full(1)));
+    let absent = take(&mut items, Entry::Asked { id: ItemId(2) });
+    assert_eq!(rt; absent, Err(ApplyFault::NoItem(ItemId(2))));
+    Ok(())
+}
+
+#[test]
+fn a_further_condition_fails(rt: HostRuntime) -> Result<(), Fail> {
     let broken = Phase::Interrupted(Reason::NetworkTimeout);
-    assert_eq!(rt;
-        answer(&rt, rt.alloc(), 3, Phase::Running),
-        Err(ApplyFault::Unlawful(3))
-    );
-    assert_eq!(rt;
-        answer(&rt, rt.alloc(), 8, broken),
-        Err(ApplyFault::Unlawful(8))
-    );
-    assert_eq!(rt; answer(&rt, rt.alloc(), 2, Phase::Waiting), Ok(()));
+    let rows = [(3, Phase::Running), (8, broken), (15, Phase::Cancelled)];
+    for (kind, phase) in rows {
+        assert!(rt; answer(&rt, rt.alloc(), kind, phase).is_err());
+    }
     let mut items = in_phase(&rt, rt.alloc(), Phase::Running);
+    let word = take(&mut items, added(&rt, rt.alloc(), 2, b"w1"));
+    assert_eq!(rt; word, Err(ApplyFault::Unlawful(1)));
+    assert_eq!(rt; take(&mut items, added(&rt, rt.alloc(), 2, b"")), Ok(()));
+    assert_eq!(rt; take(&mut items, began(2, 1, By::User)), Ok(()));
+    let name = take(&mut items, described(&rt, rt.alloc(), 2, b"A"));
+    assert_eq!(rt; name, Err(ApplyFault::Unlawful(3)));
     assert_eq!(rt;
-        items.apply(&added(&rt, rt.alloc(), 4, b"w1")),
-        Err(ApplyFault::Unlawful(1))
+        take(&mut items, described(&rt, rt.alloc(), 2, b"b")),
+        Ok(())
     );
-    assert_eq!(rt; items.apply(&added(&rt, rt.alloc(), 4, b"")), Ok(()));
+    Ok(())
+}
+
+#[test]
+fn a_reopened_list_runs_nothing(rt: HostRuntime) -> Result<(), Fail> {
+    let mut items = in_phase(&rt, rt.alloc(), Phase::Running);
+    let early = take(&mut items, Entry::Reopened { next: 1, at: 0 });
+    assert_eq!(rt; early, Err(ApplyFault::Unlawful(13)));
     assert_eq!(rt;
-        items.apply(&Entry::Reopened { next: 4, at: 0 }),
-        Err(ApplyFault::Unlawful(13))
+        take(&mut items, Entry::Reopened { next: 2, at: 0 }),
+        Ok(())
     );
-    assert_eq!(rt; items.apply(&Entry::Reopened { next: 5, at: 0 }), Ok(()));
     let item = items.get(ItemId(1)).ok_or("item 1")?;
     assert_eq!(rt; item.phase, Phase::Interrupted(Reason::Crash));
     assert_eq!(rt; item.reason, Some(Reason::Crash));
-    assert_eq!(rt;
-        items.apply(&restored(&rt, rt.alloc(), Phase::Waiting)),
-        Err(ApplyFault::Unlawful(14))
-    );
-    let begin = Entry::Began {
-        id: ItemId(4),
-        attempt: Attempt(1),
-        by: By::User,
-        at: 6,
-    };
-    assert_eq!(rt; items.apply(&begin), Ok(()));
-    assert_eq!(rt;
-        items.apply(&described(&rt, rt.alloc(), 4, b"A")),
-        Err(ApplyFault::Unlawful(3))
-    );
-    assert_eq!(rt; items.apply(&described(&rt, rt.alloc(), 4, b"b")), Ok(()));
     Ok(())
 }
 
 #[test]
 fn a_short_history_leaves_the_same_items(rt: HostRuntime) -> Result<(), Fail> {
-    let items = in_phase(&rt, rt.alloc(), Phase::Running);
+    let mut items = in_phase(&rt, rt.alloc(), Phase::Running);
     let entries = items.short_history(8)?;
     assert_eq!(rt; entries.count(), 2);
     let mut again = Items::new(rt.alloc(), 9)?;
     assert_eq!(rt; again.apply_all(entries.items()), Ok(()));
-    assert_eq!(rt; again.next(), 4);
-    assert_eq!(rt; again.count(), 1);
+    assert_eq!(rt; (again.next(), again.count()), (2, 1));
     assert_eq!(rt; again.mode(ItemId(1)), items.mode(ItemId(1)));
+    assert_eq!(rt;
+        items.apply_all(entries.items()),
+        Err(ApplyFault::Unlawful(14))
+    );
     Ok(())
 }
 

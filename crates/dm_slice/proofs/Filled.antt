@@ -77,7 +77,7 @@ in-append (r ∷ rest) more place (inl here) = inl (inl here)
 in-append (r ∷ rest) more place (inr later) = elim (in-append rest more place later) [ inl left ↦ inl (inr left) | inr right ↦ inr right ]
 
 -- the runs of a walk
-abbrev runs_of : ℕ → ℕ → ℕ → ℕ → List Slice → List Run
+abbrev pub runs_of : ℕ → ℕ → ℕ → ℕ → List Slice → List Run
 runs_of total least left room slices = all_of (groups least left room (holes total slices))
 
 -- the first slice of a normal list has bytes, or it ends at 0

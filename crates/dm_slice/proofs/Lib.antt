@@ -3,3 +3,4 @@ pub mod Joins
 pub mod Plans
 pub mod Opened
 pub mod Filled
+pub mod Placed

@@ -2,7 +2,7 @@
 use Rattle.std.specs.Prelude.{◌≡◌, ℕ, zero, suc, ◌+◌, ◌-◌, ◌/◌, ◌<◌, ◌≤◌, ◌==◌, nat_lt, min, max, if◌then◌else◌, List, [], ◌∷◌, ◌++◌, length, map, drop, false, Some, ◌⊎◌}
 use Rattle.dm_types.specs.declared.slices.Slice.{Slice}
 use Rattle.dm_slice.specs.Words.{end_of, HasByte, IsApart}
-use Rattle.dm_slice.specs.Cover.{normal_of}
+use Rattle.dm_slice.specs.Cover.{limit_at, next_of, normal_of}
 use Rattle.dm_slice.specs.declared.plan.Part.{Part}
 
 -- the places from one up to another
@@ -109,6 +109,12 @@ pub record FillsHoles (total : ℕ) (cover : List Slice) (parts : List Part) : T
   -- the hole of each of their places is planned whole, upwards and downwards
   pub upward : (place further : ℕ) → InParts parts place → place ≤ further → further < total → NoByteBetween cover place further → InParts parts further
   pub downward : (place further : ℕ) → InParts parts place → further ≤ place → NoByteBetween cover further place → InParts parts further
+
+-- Each part begins where the slice with its index ends, and ends where the next slice begins or before: so the
+-- slice can grow up to its end.
+abbrev pub AreAtSlices : List Slice → List Part → Type 0
+AreAtSlices slices [] = Unit {0}
+AreAtSlices slices (part ∷ rest) = (next_of slices part.index ≡ Some part.first) × (part.end ≤ limit_at slices part.index) × AreAtSlices slices rest
 
 -- a normal list from some slice on
 abbrev pub IsChain : List Slice → Type 0

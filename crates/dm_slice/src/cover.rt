@@ -1,6 +1,6 @@
 ghost use Rattle.std.specs.Prelude.{◌≡◌, ◌+◌, ◌<◌, ◌≤◌, ◌↔◌, ◌⊎◌, ◌^◌, ◌++◌, ◌∷◌, [], false, IsTrue, None, Some, unwrap_or, IfSome, IfOk, OnOk, OnErr, MatchOption, length, map, ℕ};
 ghost use Rattle.dm_slice.specs.Words.{IsWithin};
-ghost use Rattle.dm_slice.specs.Plan.{FillsHoles, IsPlanned};
+ghost use Rattle.dm_slice.specs.Plan.{AreAtSlices, FillsHoles, IsPlanned};
 ghost use Rattle.dm_slice.specs.Cover.{IsCover, IsCoverWithin, IsRising, joined, marked, normal_of};
 
 use crate::plan::{Part, Plan, Rule};
@@ -123,6 +123,7 @@ impl Cover {
         requires within { IsWithin total self.old }
         ensures plan { IfOk result (IsPlanned total n min self.old self.new) }
         ensures fills { IfOk result (FillsHoles total self.old) }
+        ensures grows { IfOk result (AreAtSlices self.new) }
         ensures err { OnErr result (self.new ≡ self.old) }
     {
         let (slices, parts) = planned(self.alloc, &self.slices, Rule { total, least: min }, n)?;
@@ -214,6 +215,7 @@ fn planned(
     ensures plan { IfOk result (λ both.
         IsPlanned rule.total n rule.least slices.now both.0.items both.1.items) }
     ensures fills { IfOk result (λ both. FillsHoles rule.total slices.now both.1.items) }
+    ensures grows { IfOk result (λ both. AreAtSlices both.0.items both.1.items) }
     ensures cover { IfOk result (λ both. IsCover both.0.items) }
     ensures most { IfOk result (λ both. length both.0.items ≤ 64) }
 {

@@ -1,5 +1,6 @@
 use Rattle.std.proofs.Common.{◌-◌, length, Some, subst, sym, ap, ◌∙◌, rules, arith}
 use Rattle.dm_slice.proofs.Filled.{plan_of-fills}
+use Rattle.dm_slice.proofs.Placed.{plan_of-placed}
 use Rattle.dm_slice.specs.Words.{IsWithin}
 use Rattle.std.proofs.lemmas.Grind.{common_steps}
 use Rattle.dm_slice.specs.Plan.{FillsHoles, IsPlanned, IsChain}
@@ -32,3 +33,8 @@ returns-clause-fills c =
     let planned : IsPlanned c.args.rule.total c.args.n c.args.rule.least c.args.slices.now c.walk.new.opened.items c.walk.new.parts.items = first_of (search rules, grind (arith, common_steps)) in
     subst (FillsHoles c.args.rule.total c.args.slices.now) (sym planned.parts)
     (plan_of-fills c.args.rule.total c.args.n c.args.rule.least c.args.slices.now c.requires.cover c.requires.within (omega arith))
+
+pub returns-clause-grows : goal.returns-clause-grows
+returns-clause-grows c =
+    let planned : IsPlanned c.args.rule.total c.args.n c.args.rule.least c.args.slices.now c.walk.new.opened.items c.walk.new.parts.items = first_of (search rules, grind (arith, common_steps)) in
+    rw (planned.parts, planned.slices) (plan_of-placed c.args.rule.total c.args.n c.args.rule.least c.args.slices.now c.requires.cover c.requires.total (omega arith))
