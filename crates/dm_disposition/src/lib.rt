@@ -79,3 +79,5 @@ pub fn read_disposition(alloc: Global, value: &[u8]) -> Result<Disposition, Disp
 
 #[cfg(test)]
 mod tests;
+#[cfg(test)]
+mod yardstick;

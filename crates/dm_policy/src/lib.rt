@@ -2,9 +2,11 @@
 #![tactic(auto)]
 
 mod cause;
+mod laws;
 mod mode;
 
 pub use cause::{Cause, reason_of};
+pub use laws::{cause_rows, mode_rows};
 pub use mode::{
     MOST_AUTOS, ModeFacts, because_of, is_continue, is_immediate, is_invalid, is_restart, mode_of,
 };

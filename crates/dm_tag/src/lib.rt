@@ -19,3 +19,5 @@ pub use units::takes_ranges;
 
 #[cfg(test)]
 mod tests;
+#[cfg(test)]
+mod yardstick;
