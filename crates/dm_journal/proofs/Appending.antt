@@ -1,16 +1,11 @@
 -- What the four calls of an append leave, each on the disk before it.
-use Rattle.std.proofs.Common.{◌≡◌, ◌≢◌, ◌⊎◌, inl, inr, ⊎_elim, ℕ, zero, suc, ◌+◌, ◌-◌, ◌<◌, ◌≤◌, max, List, [], ◌∷◌, ◌++◌, length, get_or, take, drop, replicate, Some, refl, sym, ◌∙◌, ap, subst, arith, length-append, length-drop, length-take, append_assoc, get_or-take, get_or-drop}
-use Rattle.std.proofs.lemmas.List.{take_at, drop_at, drop-drop, append-nil, ext_get_or, get_or_append_left, get_or-append_right, take-append-drop, length-take-le, get_or_at}
-use Rattle.std.proofs.lemmas.Bool.{cases_lt, cases_eq, cases_order}
-use Rattle.dm_disk_model.specs.File.{File, FileLeaves, IsClean, IsUntouched, SameOutside, IsTorn, IsWritten, IsSynced, overwrite, synced_file}
-use Rattle.dm_disk_model.specs.Folder.{Folder, FileSteps}
-use Rattle.dm_disk_model.specs.Firm.{HasFile, LeftOf}
+use Rattle.std.proofs.Common.{◌≡◌, ◌≢◌, ◌⊎◌, inl, inr, ⊎_elim, ℕ, zero, suc, ◌+◌, ◌-◌, ◌<◌, ◌≤◌, List, [], ◌∷◌, ◌++◌, length, get_or, take, drop, replicate, refl, sym, ◌∙◌, ap, subst, arith, length-append, append_assoc, get_or-take}
+use Rattle.std.proofs.lemmas.List.{take_at, drop_at, drop-drop, ext_get_or, get_or_append_left, get_or-append_right, take-append-drop, length-take-le, get_or_at}
+use Rattle.std.proofs.lemmas.Bool.{cases_eq, cases_order}
+use Rattle.dm_disk_model.specs.File.{File, FileLeaves, IsClean, IsUntouched, SameOutside, IsTorn, IsWritten, overwrite}
 use Rattle.dm_disk_model.specs.Names.{settled_file}
-use Rattle.dm_disk_model.specs.Disk.{DiskState, Image, MayLeave}
-use Rattle.dm_disk_model.proofs.FirmNames.{steps, has_left, Stepped}
-use Rattle.dm_disk_model.proofs.FileBytes.{overwrite_outside, length-overwrite}
-use Rattle.dm_journal.specs.Text.{header, FitsCell, in_four, cell, cells, AllFit, front, IsJournalText}
-use Rattle.dm_journal.specs.AtRest.{journal_name, AtRest, HasJournal, WithOrWithout}
+use Rattle.dm_disk_model.proofs.FileBytes.{overwrite_outside}
+use Rattle.dm_journal.specs.Text.{header, FitsCell, in_four, cell, AllFit, front, IsJournalText}
 use Rattle.dm_journal.proofs.Texts.{cells_push, AllFit-push}
 
 -- a write where one part ends

@@ -1,20 +1,19 @@
 -- The four calls of an append, over the disk's moments.
-use Rattle.std.proofs.Common.{◌≡◌, ◌≢◌, ◌⊎◌, inl, inr, ⊎_elim, ℕ, ◌+◌, ◌<◌, ◌≤◌, List, [], ◌∷◌, ◌++◌, length, drop, Some, IsSome, is_some, Result, Ok, Err, refl, sym, ◌∙◌, ap, subst, arith, length-append, append_assoc}
+use Rattle.std.proofs.Common.{◌≡◌, ◌≢◌, ◌⊎◌, inl, inr, ⊎_elim, ℕ, ◌+◌, List, [], ◌∷◌, ◌++◌, length, drop, Some, IsSome, is_some, Result, Ok, Err, refl, sym, ◌∙◌, ap, subst, arith, length-append, append_assoc}
 use Rattle.dm_disk_model.specs.declared.place.Place.{Place}
-use Rattle.dm_disk_model.specs.declared.place.Area.TheVariants.{State}
 use Rattle.dm_disk_model.specs.declared.place.DiskFault.{DiskFault}
-use Rattle.dm_disk_model.specs.File.{File, IsTorn, IsWritten, IsSynced, overwrite, synced_file}
-use Rattle.dm_disk_model.specs.Folder.{Folder, Names, FileSteps, names_of, after_changes, Change}
-use Rattle.dm_disk_model.specs.Firm.{HasFile, LeftOf}
-use Rattle.dm_disk_model.specs.Names.{settled_file, Throughout}
+use Rattle.dm_disk_model.specs.File.{File, IsTorn, IsWritten, IsSynced, overwrite}
+use Rattle.dm_disk_model.specs.Folder.{Folder, Names, FileSteps, names_of, after_changes}
+use Rattle.dm_disk_model.specs.Firm.{HasFile}
+use Rattle.dm_disk_model.specs.Names.{settled_file}
 use Rattle.dm_disk_model.specs.Moments.{LeavesOnly, KeepsFiles}
 use Rattle.dm_disk_model.specs.Disk.{DiskState, Image, History, Next, now, MayLeave, Stands, WriteStep, SyncStep, bytes_at}
 use Rattle.dm_disk_model.proofs.Places.{write_reads, sync_reads}
 use Rattle.dm_disk_model.proofs.FirmNames.{steps, has_left, Stepped}
 use Rattle.dm_disk_model.proofs.Reaching.{over_call, joined, weaker, at_end}
-use Rattle.dm_journal.specs.Text.{header, FitsCell, in_four, cell, cells, AllFit, front, IsJournalText}
-use Rattle.dm_journal.specs.AtRest.{journal_name, journal_place, AtRest, HasJournal, ReadsJournal, WithOrWithout, cell_tail}
-use Rattle.dm_journal.proofs.Texts.{cells_push, AllFit-push, length-cell}
+use Rattle.dm_journal.specs.Text.{header, FitsCell, in_four, cell, AllFit, front, IsJournalText}
+use Rattle.dm_journal.specs.AtRest.{journal_name, journal_place, AtRest, ReadsJournal, WithOrWithout, cell_tail}
+use Rattle.dm_journal.proofs.Texts.{cells_push, length-cell}
 use Rattle.dm_journal.proofs.Appending.{KeepsFront, front_left, front_settled, front_torn, written_is_torn, opening, opening_open, gate_left, overwrite_at_seam}
 
 -- the file stands, and its front is durable

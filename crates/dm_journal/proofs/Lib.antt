@@ -1,3 +1,11 @@
 pub mod Appending
+pub mod Beginning
 pub mod Calls
+pub mod Faults
+pub mod Fewer
+pub mod Fronts
+pub mod Resting
+pub mod Settling
+pub mod Starts
+pub mod Telling
 pub mod Texts

@@ -1,9 +1,10 @@
 -- The journal's text: one cell more, and that its bodies and the place where it breaks are unique.
-use Rattle.std.proofs.Common.{◌≡◌, ◌≢◌, ◌⊎◌, inl, inr, ⊎_elim, ℕ, ◌+◌, ◌-◌, ◌*◌, ◌/◌, ◌%◌, ◌^◌, ◌<◌, ◌≤◌, List, [], ◌∷◌, ◌++◌, length, get_or, take, drop, Result, Ok, Err, refl, sym, ◌∙◌, ap, subst, arith, length-append, append_assoc}
-use Rattle.std.proofs.lemmas.List.{take_at, drop_at, append_cancel_left, append-nil}
-use Rattle.dm_journal.specs.Text.{header, FitsCell, in_four, cell, cells, AllFit, front, IsJournalText, IsBroken, IsBrokenAt, HasNoHeader, IsDamagedAt}
+use Rattle.std.proofs.Common.{◌≡◌, ◌≢◌, ◌⊎◌, inl, inr, ℕ, ◌+◌, ◌*◌, ◌/◌, ◌%◌, ◌^◌, ◌<◌, List, [], ◌∷◌, ◌++◌, length, get_or, take, drop, Result, Ok, Err, refl, sym, ◌∙◌, ap, subst, arith, length-append, append_assoc}
+use Rattle.std.proofs.lemmas.List.{take_at, drop_at, append-nil}
+use Rattle.dm_journal.specs.Text.{FitsCell, in_four, cell, cells, AllFit, front, IsJournalText, IsBroken, IsDamagedAt}
+use Rattle.dm_journal.specs.AtRest.{cell_tail}
 use Rattle.dm_journal.specs.Cell.{IsShut}
-use Rattle.dm_journal.specs.Outcome.{TextIsRead, CellsAreRead, AreCells, BreakAt}
+use Rattle.dm_journal.specs.Outcome.{TextIsRead, WholeIsRead}
 use Rattle.dm_journal.specs.declared.fault.TextFault.{TextFault}
 use Rattle.dm_journal.specs.declared.fault.TextFault.TheVariants.{Damaged, NoMemory}
 
@@ -17,6 +18,9 @@ AllFit-push (first ∷ bodies) body fit here = (fit.0, AllFit-push bodies body f
 
 pub length-cell : (body : List ℕ) → length (cell body) ≡ 5 + length body
 length-cell body = omega (arith, length-append (in_four (length body)) body)
+
+pub length-tail : (body : List ℕ) → length (cell_tail body) ≡ 5 + length body
+length-tail body = omega (arith, length-append (in_four (length body) ++ body) (0 ∷ []), length-append (in_four (length body)) body)
 
 -- four bytes and the number that they stand for
 pub four_of : (n : ℕ) → n < 2 ^ 32 → ((n / 2 ^ 24 * 256 + n / 2 ^ 16 % 256) * 256 + n / 2 ^ 8 % 256) * 256 + n % 256 ≡ n
@@ -114,3 +118,8 @@ pub read_damage : (bytes : List ℕ) (result : Result (List (List ℕ)) TextFaul
 read_damage bytes (Ok found) read place damaged = absurd (never_both found bytes place read damaged)
 read_damage bytes (Err (Damaged found)) read place damaged = inl (ap (λ (n : ℕ). Err (Damaged n)) (damage_unique bytes found place read damaged))
 read_damage bytes (Err NoMemory) read place damaged = inr refl
+
+-- a text that isn't read is not read with its gate either
+pub same_damage : (bytes : List ℕ) (fault : TextFault) → WholeIsRead bytes (Err fault) → TextIsRead bytes (Err fault)
+same_damage bytes (Damaged place) read = read
+same_damage bytes NoMemory read = tt

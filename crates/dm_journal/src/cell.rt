@@ -1,6 +1,5 @@
 ghost use Rattle.std.specs.Prelude.{◌≡◌, ◌+◌, ◌*◌};
 ghost use Rattle.dm_journal.specs.Cell.{IsAtGate};
-ghost use Rattle.dm_journal.specs.Text.{IsBroken};
 
 /// The most bytes of a body.
 pub(crate) const MOST: usize = 16384;

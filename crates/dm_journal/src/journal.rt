@@ -1,14 +1,29 @@
-ghost use Rattle.std.specs.Prelude.{◌≡◌, ◌⊎◌, ◌+◌, ◌^◌, ◌<◌, ◌≤◌, ◌++◌, ◌∷◌, [], List, ℕ, length, OnOk, OnErr, vec_capacity};
+ghost use Rattle.std.specs.Prelude.{◌≡◌, ◌+◌, ◌^◌, ◌≤◌, ◌++◌, ◌∷◌, [], List, ℕ, length, Err, IfOk, IfErr, OnOk, OnErr, vec_capacity};
 ghost use Rattle.dm_types.specs.Faults.{HasCause};
+ghost use Rattle.dm_disk_model.specs.declared.place.Place.{Place as Spot};
 ghost use Rattle.dm_disk_model.specs.Faults.{disk_kind};
-ghost use Rattle.dm_disk_model.specs.Disk.{now, Stands};
+ghost use Rattle.dm_disk_model.specs.Names.{NeverStands};
+ghost use Rattle.dm_disk_model.specs.Disk.{now, Stands, StandsNot, MayLeave, bytes_at};
 ghost use Rattle.dm_disk_model.specs.Moments.{LeavesOnly, KeepsFiles};
+ghost use Rattle.dm_journal.specs.declared.fault.JournalFault.TheVariants as faults;
+ghost use Rattle.dm_journal.specs.Fault.{journal_kind, IsNoDamage};
+ghost use Rattle.dm_journal.specs.Finding.{Finds, Tells, IsBehind};
+ghost use Rattle.dm_journal.specs.Kept.{IsRoom, state_place};
+ghost use Rattle.dm_journal.specs.Starting.{OldOrBlank, NoneOrBlank};
 ghost use Rattle.dm_journal.specs.Text.{FitsCell};
 ghost use Rattle.dm_journal.specs.AtRest.{journal_place, AtRest, ReadsJournal, WithOrWithout, cell_tail};
 
+use crate::finding::find_text;
 use crate::opening::write_cell;
-use dm_disk_model::{Disk, DiskFault, Place};
+use crate::starting::start_blank;
+use crate::{Bodies, JournalFault};
+use dm_disk_model::{Area, Disk, DiskFault, Place};
+use dm_types::{NoMemory, Text};
+use std::alloc::Global;
 use std::marker::Model;
+
+/// The most bytes that are written at once: a cell's length and body, and a gate.
+const ROOM: usize = 16_389;
 
 /// The journal of a disk. In contracts it is the place of its closed gate in the file.
 #[derive(Drop)]
@@ -32,6 +47,78 @@ impl Model for Journal {
 }
 
 impl Journal {
+    /// Makes a journal of no bodies, where none stands. It is made as `journal.new`, of which one that
+    /// was left is removed first. Memory is taken before the disk is called.
+    pub fn start<D: Disk>(alloc: Global, disk: &mut D) -> Result<Journal, JournalFault>
+        requires stands_not { D.tells → StandsNot (now (D.history disk.old)) journal_place }
+
+        // A crash at any moment of the call leaves `journal` as one at its start might have, or with no bodies.
+        ensures any_moment { D.tells → LeavesOnly (D.history disk.old) (D.history disk.new) (OldOrBlank (now (D.history disk.old))) }
+        ensures fresh { D.tells → NeverStands journal_place (now (D.history disk.old)) → LeavesOnly (D.history disk.old) (D.history disk.new) NoneOrBlank }
+        ensures ok { D.tells → IfOk result (λ journal. AtRest (now (D.history disk.new)) journal []) }
+        ensures at { IfOk result (λ journal. journal ≡ 8) }
+        ensures beside { D.tells → KeepsFiles (D.history disk.old) (D.history disk.new) }
+        ensures starved { result ≡ Err faults.NoMemory → disk.new ≡ disk.old }
+        ensures undamaged { IfErr result IsNoDamage }
+        ensures cause { HasCause journal_kind (D.faults disk.old) (D.faults disk.new) result }
+        ensures far { D.far disk.new ≡ D.far disk.old }
+    {
+        let (place, spare, buffer) = match make_room(alloc) {
+            Ok(room) => room,
+            Err(NoMemory) => return Err(JournalFault::NoMemory),
+        };
+        match start_blank(disk, &spare, &place) {
+            Ok(()) => Ok(Journal {
+                place,
+                gate: 8,
+                buffer,
+            }),
+            Err(fault) => Err(JournalFault::Disk(fault.0)),
+        }
+    }
+
+    /// Finds the journal and what it holds, or `None` where none stands. First the names are made
+    /// durable, and then the file. Where memory is wanting, nothing but these syncs was done.
+    pub fn find<D: Disk>(
+        alloc: Global,
+        disk: &mut D,
+    ) -> Result<Option<(Journal, Bodies)>, JournalFault>
+        ensures found { D.tells → Finds (now (D.history disk.old)) (now (D.history disk.new)) result }
+        ensures exact { D.tells → Tells (now (D.history disk.old)) result }
+        ensures at { IfOk result IsBehind }
+
+        // A crash at any moment of the call leaves what one at its start might have.
+        ensures any_moment { D.tells → LeavesOnly (D.history disk.old) (D.history disk.new) (MayLeave (now (D.history disk.old))) }
+        ensures reads { D.tells → (place : Spot) → bytes_at (now (D.history disk.new)) place ≡ bytes_at (now (D.history disk.old)) place }
+        ensures beside { D.tells → KeepsFiles (D.history disk.old) (D.history disk.new) }
+        ensures cause { HasCause journal_kind (D.faults disk.old) (D.faults disk.new) result }
+        ensures far { D.far disk.new ≡ D.far disk.old }
+    {
+        let (place, _, buffer) = match make_room(alloc) {
+            Ok(room) => room,
+            Err(NoMemory) => return Err(JournalFault::NoMemory),
+        };
+        match find_text(alloc, disk, &place) {
+            Ok(Some(found)) => Ok(Some((
+                Journal {
+                    place,
+                    gate: found.gate,
+                    buffer,
+                },
+                found.bodies,
+            ))),
+            Ok(None) => Ok(None),
+            Err(fault) => Err(fault),
+        }
+    }
+
+    /// The length in bytes of the header, the cells and the closed gate.
+    pub fn length(&self) -> u64
+        ensures { result ≡ self.now + 1 }
+    {
+        self.gate + 1
+    }
+
     /// Adds a body. Where it answers Ok the body is acknowledged: from then on each crash leaves it.
     /// After a fault the journal must be found anew. It takes no memory.
     pub fn append<D: Disk>(&mut self, disk: &mut D, body: &[u8]) -> Result<(), DiskFault>
@@ -49,12 +136,34 @@ impl Journal {
         ensures ok { OnOk result (self.new ≡ self.old + (5 + length body.now)) }
         ensures err { OnErr result (self.new ≡ self.old) }
         ensures cause { HasCause disk_kind (D.faults disk.old) (D.faults disk.new) result }
+        ensures far { self.old + (6 + length body.now) ≤ 2 ^ 62 → D.far disk.new ≡ D.far disk.old }
     {
         fill_tail(&mut self.buffer, body);
         write_cell(disk, &self.place, self.gate, &self.buffer)?;
         self.gate += 5 + body.len() as u64;
         Ok(())
     }
+}
+
+/// The places of the journal and of the file in which it is made, and a buffer for its cells.
+fn make_room(alloc: Global) -> Result<(Place, Place, Vec<u8>), NoMemory>
+    ensures { IfOk result IsRoom }
+{
+    let place = place_of(alloc, b"journal")?;
+    let spare = place_of(alloc, b"journal.new")?;
+    let buffer = Vec::with_capacity(alloc, ROOM)?;
+    Ok((place, spare, buffer))
+}
+
+/// A place of the state area.
+fn place_of(alloc: Global, name: &[u8]) -> Result<Place, NoMemory>
+    ensures { IfOk result (λ place. place ≡ state_place name.now) }
+{
+    let name = Text::from_bytes(alloc, name)?;
+    Ok(Place {
+        area: Area::State,
+        name,
+    })
 }
 
 /// Puts what is written behind a closed gate into the buffer.

@@ -3,11 +3,13 @@
 
 mod cell;
 mod fault;
+mod finding;
 mod journal;
 mod opening;
+mod starting;
 mod text;
 
-pub use fault::TextFault;
+pub use fault::{JournalFault, TextFault};
 pub use journal::Journal;
 pub use text::{Bodies, read_journal};
 

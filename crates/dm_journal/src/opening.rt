@@ -1,4 +1,4 @@
-ghost use Rattle.std.specs.Prelude.{◌≡◌, ◌⊎◌, ◌+◌, ◌^◌, ◌<◌, ◌++◌, ◌∷◌, [], List, ℕ, length, OnOk};
+ghost use Rattle.std.specs.Prelude.{◌≡◌, ◌+◌, ◌^◌, ◌<◌, ◌≤◌, ◌++◌, ◌∷◌, [], List, ℕ, length, OnOk};
 ghost use Rattle.dm_types.specs.Faults.{HasCause};
 ghost use Rattle.dm_disk_model.specs.Faults.{disk_kind};
 ghost use Rattle.dm_disk_model.specs.Disk.{now, Stands};
@@ -27,6 +27,7 @@ pub(crate) fn write_cell<D: Disk>(
         → ReadsJournal (now (D.history disk.old)) gate bodies → OnOk result (ReadsJournal (now (D.history disk.new)) (gate + (5 + length body)) (bodies ++ body ∷ [])) }
     ensures beside { D.tells → KeepsFiles (D.history disk.old) (D.history disk.new) }
     ensures near { OnOk result (gate + 1 + length tail.now < 2 ^ 63) }
+    ensures far { gate + 1 + length tail.now ≤ 2 ^ 62 → D.far disk.new ≡ D.far disk.old }
     ensures cause { HasCause disk_kind (D.faults disk.old) (D.faults disk.new) result }
 {
     disk.write_at(place, gate + 1, tail)?;

@@ -1,4 +1,4 @@
-use Rattle.std.proofs.Common.{◌+◌, ◌∷◌, [], Ok, Err}
+use Rattle.std.proofs.Common.{◌+◌, ◌∷◌, [], Ok, Err, ◌∙◌, arith}
 use Rattle.dm_journal.proofs.Calls.{write_home, sync_home, fill_failed, fill_done, settle_failed, settle_done, open_failed, open_done, keep_failed, keep_done, appended_reads}
 use Rattle.dm_disk_model.specs.Disk.{now}
 use Rattle.dm_journal.proofs.opening.write_cell.Goals as goal
@@ -75,3 +75,22 @@ returns-clause-read g c tells bodies body fits is reads =
     let kept = sync_home c.args.place.now (Ok tt) (history c.write_at-2.new.self) (history c.sync-2.new.self) home (c.in_ok-sync-2.ensures.done tells) in
     appended_reads bodies body gate fits (now start) (now (history c.write_at.new.self)) (now (history c.sync.new.self)) (now (history c.write_at-2.new.self)) (now (history c.sync-2.new.self))
     c.args.tail.now is reads filled.stepped settled.stepped opened.stepped kept.stepped
+
+-- only a write behind the gate may end too far: the gate itself stands below
+pub returns-in_err-write_at-clause-far : goal.returns-in_err-write_at-clause-far
+returns-in_err-write_at-clause-far g c near = c.write_at.ensures.far.near (omega (arith, near))
+
+pub returns-in_err-sync-clause-far : goal.returns-in_err-sync-clause-far
+returns-in_err-sync-clause-far g c near = c.sync.ensures.far ∙ c.write_at.ensures.far.near (omega (arith, near))
+
+pub returns-in_err-write_at-2-clause-far : goal.returns-in_err-write_at-2-clause-far
+returns-in_err-write_at-2-clause-far g c near =
+    c.write_at-2.ensures.far.near (omega (arith, near, c.requires.near)) ∙ c.sync.ensures.far ∙ c.write_at.ensures.far.near (omega (arith, near))
+
+pub returns-in_err-sync-2-clause-far : goal.returns-in_err-sync-2-clause-far
+returns-in_err-sync-2-clause-far g c near =
+    c.sync-2.ensures.far ∙ c.write_at-2.ensures.far.near (omega (arith, near, c.requires.near)) ∙ c.sync.ensures.far ∙ c.write_at.ensures.far.near (omega (arith, near))
+
+pub returns-clause-far : goal.returns-clause-far
+returns-clause-far g c near =
+    c.sync-2.ensures.far ∙ c.write_at-2.ensures.far.near (omega (arith, near, c.requires.near)) ∙ c.sync.ensures.far ∙ c.write_at.ensures.far.near (omega (arith, near))

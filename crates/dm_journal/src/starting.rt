@@ -1,0 +1,77 @@
+// A journal of no bodies is made beside, and renamed once it is durable.
+ghost use Rattle.std.specs.Prelude.{◌≡◌, [], OnOk};
+ghost use Rattle.dm_types.specs.Faults.{HasCause};
+ghost use Rattle.dm_disk_model.specs.Faults.{disk_kind};
+ghost use Rattle.dm_disk_model.specs.Disk.{History, IsSoundDisk, now, Stands, StandsNot};
+ghost use Rattle.dm_disk_model.specs.Moments.{Reached};
+ghost use Rattle.dm_journal.specs.AtRest.{journal_place, AtRest};
+ghost use Rattle.dm_journal.specs.Starting.{spare_place, Shows, IsAsBefore, HasSpare, IsBlank, Comes};
+
+use dm_disk_model::{Area, Disk, DiskFault, Place};
+
+/// The header and a closed gate.
+const BLANK: [u8; 9] = *b"DMJRNL1\n\0";
+
+/// Removes what an earlier start left.
+fn clear_spare<D: Disk>(disk: &mut D, spare: &Place) -> Result<(), DiskFault>
+    requires place { spare.now ≡ spare_place }
+    ensures does { D.tells → (start : History) → IsSoundDisk (now start) → Reached start (D.history disk.old) (Shows (now start)) (IsAsBefore (now start))
+        → Comes start (D.history disk.new) (IsAsBefore (now start)) result }
+    ensures stands_not { D.tells → OnOk result (StandsNot (now (D.history disk.new)) spare_place) }
+    ensures cause { HasCause disk_kind (D.faults disk.old) (D.faults disk.new) result }
+    ensures far { D.far disk.new ≡ D.far disk.old }
+{
+    match disk.length(spare) {
+        Ok(None) => Ok(()),
+        Ok(Some(_)) => disk.remove(spare),
+        Err(fault) => Err(fault),
+    }
+}
+
+/// Makes the journal beside, and makes it durable.
+fn make_spare<D: Disk>(disk: &mut D, spare: &Place) -> Result<(), DiskFault>
+    requires place { spare.now ≡ spare_place }
+    requires stands_not { D.tells → StandsNot (now (D.history disk.old)) spare_place }
+    ensures does { D.tells → (start : History) → IsSoundDisk (now start) → Reached start (D.history disk.old) (Shows (now start)) (IsAsBefore (now start))
+        → Comes start (D.history disk.new) (HasSpare (now start) IsBlank) result }
+    ensures stands { D.tells → OnOk result (Stands (now (D.history disk.new)) spare_place) }
+    ensures cause { HasCause disk_kind (D.faults disk.old) (D.faults disk.new) result }
+    ensures far { D.far disk.new ≡ D.far disk.old }
+{
+    disk.create(spare)?;
+    disk.write_at(spare, 0, &BLANK)?;
+    disk.sync(spare)?;
+    Ok(())
+}
+
+/// Gives it its name, and makes the names durable.
+fn give_name<D: Disk>(disk: &mut D, spare: &Place, place: &Place) -> Result<(), DiskFault>
+    requires spare { spare.now ≡ spare_place }
+    requires place { place.now ≡ journal_place }
+    requires stands { D.tells → Stands (now (D.history disk.old)) spare_place }
+    ensures does { D.tells → (start : History) → IsSoundDisk (now start) → Reached start (D.history disk.old) (Shows (now start)) (HasSpare (now start) IsBlank)
+        → Comes start (D.history disk.new) (λ disk. AtRest disk 8 []) result }
+    ensures cause { HasCause disk_kind (D.faults disk.old) (D.faults disk.new) result }
+    ensures far { D.far disk.new ≡ D.far disk.old }
+{
+    disk.rename(spare, place)?;
+    disk.sync_names(Area::State)?;
+    Ok(())
+}
+
+/// Starts the journal. Until the last step a crash leaves `journal` as it was, or with no bodies.
+pub(crate) fn start_blank<D: Disk>(
+    disk: &mut D,
+    spare: &Place,
+    place: &Place,
+) -> Result<(), DiskFault>
+    requires spare { spare.now ≡ spare_place }
+    requires place { place.now ≡ journal_place }
+    ensures does { D.tells → Comes (D.history disk.old) (D.history disk.new) (λ disk. AtRest disk 8 []) result }
+    ensures cause { HasCause disk_kind (D.faults disk.old) (D.faults disk.new) result }
+    ensures far { D.far disk.new ≡ D.far disk.old }
+{
+    clear_spare(disk, spare)?;
+    make_spare(disk, spare)?;
+    give_name(disk, spare, place)
+}
