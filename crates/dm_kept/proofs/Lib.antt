@@ -1,0 +1,4 @@
+pub mod Histories
+pub mod Images
+pub mod Damages
+pub mod Listings

@@ -1,0 +1,5 @@
+pub mod Damage
+pub mod Keeping
+pub mod Recovery
+pub mod Room
+pub mod Spelled
