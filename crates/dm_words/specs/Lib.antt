@@ -1,4 +1,6 @@
 pub mod Name
 pub mod Command
+pub mod Listing
 pub mod Part
 pub mod Printed
+pub mod ListLines

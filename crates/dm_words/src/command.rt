@@ -45,7 +45,7 @@ fn read_get(operands: &[Text]) -> Result<Get<'_>, BadWords>
 }
 
 /// An operand is not empty and begins with no hyphen.
-fn is_operand(word: &[u8]) -> bool
+pub(crate) fn is_operand(word: &[u8]) -> bool
     ensures { IsTrue result ↔ IsOperand word.now }
 {
     !matches!(word, [] | [b'-', ..])

@@ -28,7 +28,7 @@ fn has_good_ends(name: &[u8]) -> bool
     !matches!(name, [] | [b'.' | b'-', ..] | [.., b'.'])
 }
 
-fn has_name_bytes(name: &[u8]) -> bool
+pub(crate) fn has_name_bytes(name: &[u8]) -> bool
     ensures { result ≡ list_all is_name_byte name.now }
 {
     name.iter().all(|byte| is_name_byte(*byte))

@@ -120,3 +120,96 @@ fn printed_texts(rt: HostRuntime) -> Result<(), Fail> {
     );
     Ok(())
 }
+
+#[test]
+fn the_words_of_the_list(rt: HostRuntime) -> Result<(), Fail> {
+    let words = texts(rt.alloc(), &[b"list"])?;
+    assert!(rt; matches!(read_list_command(&words), Some(ListCommand::List)));
+    let words = texts(rt.alloc(), &[b"add", b"http://h/b"])?;
+    assert!(rt;
+        matches!(
+            read_list_command(&words),
+            Some(ListCommand::Add {
+                word: None,
+                address: b"http://h/b"
+            })
+        )
+    );
+    let words = texts(rt.alloc(), &[b"add", b"--word", b"A.z_9-", b"http://h/b"])?;
+    assert!(rt;
+        matches!(
+            read_list_command(&words),
+            Some(ListCommand::Add {
+                word: Some(b"A.z_9-"),
+                address: b"http://h/b"
+            })
+        )
+    );
+    Ok(())
+}
+
+#[test]
+fn ids(rt: HostRuntime) -> Result<(), Fail> {
+    let taken: &[(&[u8], u32)] = &[
+        (b"1", 1),
+        (b"007", 7),
+        (b"0", 0),
+        (b"0000000001", 1),
+        (b"4294967295", 4_294_967_295),
+    ];
+    for (digits, id) in taken {
+        let words = texts(rt.alloc(), &[b"show", digits])?;
+        assert!(rt; read_list_command(&words) == Some(ListCommand::Show(*id)));
+    }
+    Ok(())
+}
+
+#[test]
+fn words_that_are_no_command_of_the_list(rt: HostRuntime) -> Result<(), Fail> {
+    let refused: &[&[&[u8]]] = &[
+        &[],
+        &[b"List"],
+        &[b"list", b"x"],
+        &[b"list", b"--word", b"a"],
+        &[b"show"],
+        &[b"show", b""],
+        &[b"show", b"x"],
+        &[b"show", b"1x"],
+        &[b"show", b"+1"],
+        &[b"show", b"-1"],
+        &[b"show", b"1", b"2"],
+        &[b"show", b"4294967296"],
+        &[b"show", b"00000000001"],
+        &[b"add"],
+        &[b"add", b""],
+        &[b"add", b"-"],
+        &[b"add", b"--word", b"w1"],
+        &[b"add", b"--word=w1", b"http://h/a"],
+        &[b"add", b"http://h/a", b"--word", b"w1"],
+        &[b"add", b"--name", b"a", b"http://h/a"],
+        &[b"add", b"--word", b"-a", b"http://h/a"],
+        &[b"add", b"--word", b"a b", b"http://h/a"],
+        &[b"add", b"--word", b"\xc3\xa9", b"http://h/a"],
+    ];
+    for words in refused {
+        let words = texts(rt.alloc(), words)?;
+        assert!(rt; read_list_command(&words).is_none());
+    }
+    assert!(rt; is_word(&[b'w'; 64]));
+    assert!(rt; !is_word(&[b'w'; 65]));
+    Ok(())
+}
+
+#[test]
+fn lines_of_the_list(rt: HostRuntime) -> Result<(), Fail> {
+    let alloc = rt.alloc();
+    let line = no_item_line(alloc, ItemId(5))?;
+    assert_eq!(rt; line.bytes(), b"no item 5\n".as_slice());
+    let line = journal_damaged_line(alloc, 26)?;
+    assert_eq!(rt; line.bytes(), b"journal damaged at 26\n".as_slice());
+    let line = items_full_line(alloc, 4096)?;
+    assert_eq!(rt; line.bytes(), b"items full 4096\n".as_slice());
+    let line = word_taken_line(alloc, ItemId(1))?;
+    assert_eq!(rt; line.bytes(), b"word of item 1\n".as_slice());
+    Ok(())
+}
