@@ -1,12 +1,10 @@
 -- One more piece of content, and the end of it.
-use Rattle.std.proofs.Common.{◌≡◌, ℕ, ◌+◌, List, ◌++◌, length, Err, arith, length-append}
+use Rattle.std.proofs.Common.{◌≡◌, ℕ, ◌+◌, List, ◌++◌, length, arith, length-append}
 use Rattle.dm_edge.specs.Wire.{Told}
 use Rattle.dm_disk_model.specs.declared.place.Place.{Place}
 use Rattle.dm_disk_model.specs.Disk.{DiskState}
 use Rattle.dm_reply.specs.Content.{Reading}
-use Rattle.dm_cli.specs.declared.copying.Stopped.{Stopped}
-use Rattle.dm_cli.specs.declared.copying.Stopped.TheVariants as stopped
-use Rattle.dm_cli.specs.Copying.{Lands, CopiedSoFar, LandedSays, CopySays}
+use Rattle.dm_cli.specs.Copying.{Lands, CopiedSoFar}
 
 -- the piece lies behind what was copied so far
 pub one_more : (told : Told) (reading : Reading) (disk : DiskState) (part : Place) (content : List ℕ) (at count : ℕ) → at ≡ length content
@@ -17,9 +15,3 @@ one_more told reading disk part content at count counts lands = record {
   read = lands.read;
   written = lands.written;
 }
-
--- what a stop says of the stream, it says of the whole copy
-pub stop_says : (told : Told) (first new : Reading) (disk : DiskState) (part : Place) (stop : Stopped) (content : List ℕ)
-    → LandedSays told new disk part (Err stop) content → CopySays told first disk part (Err stop)
-stop_says told first new disk part (stopped.Broke broke) content says = (content, says)
-stop_says told first new disk part (stopped.Disk kind) content says = tt

@@ -1,9 +1,13 @@
-pub mod Asking
+pub mod Apart
+pub mod Causing
 pub mod Completing
 pub mod Copied
 pub mod Endings
+pub mod Following
 pub mod Publishing
+pub mod Reaching
 pub mod Running
+pub mod Stopping
 pub mod Storing
 pub mod Taken
 pub mod Writing

@@ -17,8 +17,8 @@ ran_says words old new disk_before disk_after net_before net_after before after 
 ran_says words old new disk_before disk_after net_before net_after before after (Interrupted reason line) ran = ran
 ran_says words old new disk_before disk_after net_before net_after before after (DiskFailed kind) ran = ran
 ran_says words old new disk_before disk_after net_before net_after before after NoMemory ran = inr ran
-ran_says words old new disk_before disk_after net_before net_after before after BadWords ran = elim ran.says [ inl none ↦ absurd none.1 | inr one ↦ absurd one.says ]
-ran_says words old new disk_before disk_after net_before net_after before after BadAddress ran = elim ran.says [ inl none ↦ absurd none.1 | inr one ↦ absurd one.says ]
+ran_says words old new disk_before disk_after net_before net_after before after BadWords ran = elim ran.says.ended [ inl none ↦ absurd none.1 | inr one ↦ absurd one.says ]
+ran_says words old new disk_before disk_after net_before net_after before after BadAddress ran = elim ran.says.ended [ inl none ↦ absurd none.1 | inr one ↦ absurd one.says ]
 
 -- the words are one get alone
 pub same_name : (words : List (List ℕ)) (name address other_name other_address : List ℕ) → IsGet words name address → IsGet words other_name other_address → name ≡ other_name

@@ -5,7 +5,7 @@ use Rattle.dm_disk_model.specs.declared.place.Place.{Place}
 use Rattle.dm_disk_model.specs.Disk.{DiskState, Image, History}
 use Rattle.dm_disk_model.specs.Names.{image_at, NeverStands, LeavesNothingOr, Throughout}
 use Rattle.dm_disk_model.proofs.Naming.{absent_leaves, throughout_weaker}
-use Rattle.dm_reply.specs.Reply.{IsWhole}
+use Rattle.dm_edge.specs.Reply.{IsWhole}
 use Rattle.dm_cli.specs.Get.{NeverPartial, ImageHasWhole}
 
 -- a target that never stands is never partial

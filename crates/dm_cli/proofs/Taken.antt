@@ -1,13 +1,16 @@
--- A name that is taken, or free.
-use Rattle.std.proofs.Common.{◌≡◌, List, ℕ, Option, Some, None, refl, ap}
-use Rattle.std.specs.Option.{option_map}
-use Rattle.dm_disk_model.specs.Folder.{names_of}
-use Rattle.dm_disk_model.specs.Disk.{DiskState, bytes_at}
-use Rattle.dm_cli.specs.Get.{IsTaken, file_place}
+-- The head that stands before the names are looked at.
+use Rattle.std.proofs.Common.{List, ℕ, ◌++◌}
+use Rattle.httparse.specs.Grammar.{ResponseHead}
+use Rattle.dm_edge.specs.declared.framing.Framing.{Framing}
+use Rattle.dm_edge.specs.Reply.{BeginsContent}
+use Rattle.dm_head.proofs.PassLemmas.{has_more}
+use Rattle.dm_cli.specs.Causes.{HasContent}
 
--- where no file is alike, nothing stands under the name
-pub free_name : (disk : DiskState) (name : List ℕ) → (IsTaken disk name → ⊥) → bytes_at disk (file_place name) ≡ None
-free_name disk name free = by_number (names_of disk.files name) refl where
-  by_number : (number : Option ℕ) → names_of disk.files name ≡ number → bytes_at disk (file_place name) ≡ None
-  by_number None is = ap (option_map (λ k. (disk.files.file k).bytes)) is
-  by_number (Some k) is = absurd (free (record { other = name; stands = rw is refl; alike = refl }))
+-- the head stands whatever follows
+pub content_more : (given : List ℕ) (head : ResponseHead) (framing : Framing) (rest : List ℕ) → BeginsContent given head framing rest → (more : List ℕ) → HasContent (given ++ more)
+content_more given head framing rest begins more = record {
+  head = head;
+  framing = framing;
+  rest = rest ++ more;
+  begins = record { has = has_more begins.has more; ok = begins.ok; good = begins.good; limit = begins.limit };
+}

@@ -5,9 +5,9 @@ use Rattle.dm_edge.specs.declared.fault.WireFault.{WireFault}
 use Rattle.dm_edge.specs.Wire.{Told, stream_of}
 use Rattle.dm_disk_model.specs.declared.place.Place.{Place}
 use Rattle.dm_disk_model.specs.Disk.{DiskState, bytes_at}
-use Rattle.dm_reply.specs.Faults.{broke_kind}
+use Rattle.dm_edge.specs.Reply.{IsWhole, ContentBroke, most_content}
+use Rattle.dm_reply.specs.Faults.{cause_kind}
 use Rattle.dm_reply.specs.Content.{Reading, HasRead}
-use Rattle.dm_reply.specs.Reply.{IsWhole, ContentBroke}
 use Rattle.dm_cli.specs.declared.copying.Landed.{Landed}
 use Rattle.dm_cli.specs.declared.copying.Landed.TheVariants.{More, End}
 use Rattle.dm_cli.specs.declared.copying.Stopped.{Stopped}
@@ -15,7 +15,7 @@ use Rattle.dm_cli.specs.declared.copying.Stopped.TheVariants.{Broke, Disk}
 
 -- the fault of the wire that it shows, where it shows one
 abbrev pub stopped_wire : Stopped → Option WireFault
-stopped_wire (Broke broke) = broke_kind broke
+stopped_wire (Broke broke) = cause_kind broke
 stopped_wire (Disk kind) = None
 
 -- the fault of the disk that it shows
@@ -42,10 +42,10 @@ LandedSays told reading disk part (Ok End) content = IsCopied told disk part con
 LandedSays told reading disk part (Err (Broke broke)) content = ContentBroke (stream_of told) content broke
 LandedSays told reading disk part (Err (Disk kind)) content = Unit {0}
 
--- the reader moves on by what was written, and never past the end
+-- the reader moves on by what was written, and never past the most that a content has
 abbrev pub Moves : Reading → Reading → Result Landed Stopped → Type 0
-Moves old new (Ok (More count)) = (0 < count) × (new.given ≡ old.given + count) × (new.given ≤ old.wanted) × (new.wanted ≡ old.wanted) × (new.broke ≡ None)
-Moves old new (Ok End) = old.given ≡ old.wanted
+Moves old new (Ok (More count)) = (0 < count) × (new.given ≡ old.given + count) × (new.given ≤ most_content) × (new.broke ≡ None)
+Moves old new (Ok End) = Unit {0}
 Moves old new (Err stopped) = Unit {0}
 
 -- the content so far was read, and the part holds it
@@ -55,8 +55,8 @@ pub record CopiedSoFar (told : Told) (reading : Reading) (disk : DiskState) (par
   pub read : HasRead told.given reading content
   pub written : bytes_at disk part ≡ Some content
 
--- what a whole copy says: the content of the reply is in the part, whole, or the stream had less
-abbrev pub CopySays : Told → Reading → DiskState → Place → Result (Unit {0}) Stopped → Type 0
-CopySays told reading disk part (Ok done) = (content : List ℕ) × IsCopied told disk part content × (length content ≡ reading.wanted)
-CopySays told reading disk part (Err (Broke broke)) = (content : List ℕ) × ContentBroke (stream_of told) content broke
-CopySays told reading disk part (Err (Disk kind)) = Unit {0}
+-- what a whole copy says: the content of the reply is in the part, whole and of this length, or the stream ended it otherwise
+abbrev pub CopySays : Told → DiskState → Place → Result ℕ Stopped → Type 0
+CopySays told disk part (Ok count) = (content : List ℕ) × IsCopied told disk part content × (length content ≡ count)
+CopySays told disk part (Err (Broke broke)) = (content : List ℕ) × ContentBroke (stream_of told) content broke
+CopySays told disk part (Err (Disk kind)) = Unit {0}

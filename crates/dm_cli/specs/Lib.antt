@@ -1,6 +1,9 @@
+pub mod Causes
 pub mod Copying
 pub mod Ending
+pub mod Following
 pub mod Get
 pub mod Print
+pub mod Redirects
 pub mod Run
 pub mod Steps

@@ -1,18 +1,18 @@
 -- What a run of the program did.
-use Rattle.std.specs.Prelude.{◌≡◌, ◌⊎◌, ℕ, List, [], ◌∷◌, ◌++◌}
+use Rattle.std.specs.Prelude.{◌≡◌, ◌⊎◌, ℕ, List}
 use Rattle.dm_types.specs.Faults.{Rose}
 use Rattle.dm_types.specs.declared.kinds.DiskKind.{DiskKind}
 use Rattle.dm_types.specs.declared.address.Address.{Address}
 use Rattle.dm_edge.specs.declared.fault.NetFault.{NetFault}
 use Rattle.dm_edge.specs.Wire.{Closed}
+use Rattle.dm_edge.specs.Reply.{IsWhole}
 use Rattle.dm_disk_model.specs.Disk.{DiskState}
 use Rattle.dm_words.specs.Command.{IsGet}
-use Rattle.dm_reply.specs.Reply.{IsWhole}
 use Rattle.dm_request.specs.Fault.{IsNoAddress, IsRead}
-use Rattle.dm_request.specs.Request.{request_of}
 use Rattle.dm_cli.specs.declared.ending.Ending.{Ending}
 use Rattle.dm_cli.specs.declared.ending.Ending.TheVariants.{Complete, Interrupted, BadWords, BadAddress, DiskFailed, NoMemory}
-use Rattle.dm_cli.specs.Get.{file_place, the_part, IsTaken, GetSays, LeavesOthers}
+use Rattle.dm_cli.specs.Causes.{IsTaken}
+use Rattle.dm_cli.specs.Get.{file_place, the_part, GetSays, IsLast, LeavesOthers}
 
 -- there is one ending, and it is so
 pub record Explains (so : Ending → Type 0) : Type 0 where
@@ -31,7 +31,7 @@ pub record RanGet (words : List (List ℕ)) (old new : DiskState) (disk_before d
   pub is : IsGet words name text
   pub address : Address
   pub reads : IsRead text address
-  pub says : GetSays (file_place name) name (request_of address) address old new disk_before disk_after net_before net_after before after ending
+  pub says : GetSays (file_place name) name address old new disk_before disk_after net_before net_after before after ending
   pub others : LeavesOthers the_part (file_place name) old new
 
 -- the words are a get of an address that is none
@@ -40,6 +40,12 @@ pub record HasBadAddress (words : List (List ℕ)) : Type 0 where
   pub text : List ℕ
   pub is : IsGet words name text
   pub none : IsNoAddress text
+
+-- the words are a get of some address
+pub record IsSomeGet (words : List (List ℕ)) : Type 0 where
+  pub name : List ℕ
+  pub text : List ℕ
+  pub is : IsGet words name text
 
 -- what refused words are
 abbrev pub Refused : List (List ℕ) → Ending → Type 0
@@ -68,10 +74,10 @@ IsCompleteOrMemory (Complete line) = Unit {0}
 IsCompleteOrMemory NoMemory = Unit {0}
 IsCompleteOrMemory _ = ⊥
 
--- Where no call on the disk or the net failed, the connection's reply was whole and the name was free, the file was brought.
+-- Where no call on the disk or the net failed, the last connection's reply was whole and the name was free, the file was brought.
 abbrev pub Completes : List (List ℕ) → DiskState → (DiskKind → ℕ) → (DiskKind → ℕ) → (NetFault → ℕ) → (NetFault → ℕ) → List Closed → List Closed → Ending → Type 0
 Completes words old disk_before disk_after net_before net_after before after ending =
     NoneRose disk_before disk_after → NoneRose net_before net_after
     → (name text : List ℕ) → IsGet words name text → (IsTaken old name → ⊥)
-    → (connection : Closed) → after ≡ before ++ connection ∷ [] → (content : List ℕ) → IsWhole connection.stream content
+    → (connection : Closed) → IsLast before after connection → (content : List ℕ) → IsWhole connection.stream content
     → IsCompleteOrMemory ending

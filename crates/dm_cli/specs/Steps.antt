@@ -1,14 +1,14 @@
 -- What the steps of a get say to the next one.
-use Rattle.std.specs.Prelude.{◌≡◌, ◌⊎◌, ℕ, List, length, Option, Some, None}
+use Rattle.std.specs.Prelude.{◌≡◌, ◌⊎◌, ℕ, List, length, Some}
 use Rattle.dm_types.specs.Faults.{Rose}
 use Rattle.dm_types.specs.declared.kinds.DiskKind.{DiskKind}
 use Rattle.dm_types.specs.declared.reason.Reason.{Reason}
-use Rattle.dm_types.specs.declared.reason.Reason.TheVariants as reason
 use Rattle.dm_disk_model.specs.declared.place.Place.{Place}
 use Rattle.dm_disk_model.specs.Disk.{DiskState, bytes_at}
 use Rattle.dm_disk_model.specs.Names.{LeavesJust}
-use Rattle.dm_reply.specs.declared.broke.Broke.{Broke}
-use Rattle.dm_reply.specs.declared.broke.Broke.TheVariants as broke
+use Rattle.dm_policy.specs.Cause.{reason_of_cause}
+use Rattle.dm_policy.specs.declared.cause.Cause.{Cause}
+use Rattle.dm_policy.specs.declared.cause.Cause.TheVariants as cause
 use Rattle.dm_words.specs.Printed.{complete_line, interrupted_line}
 use Rattle.dm_cli.specs.declared.copying.Stopped.{Stopped}
 use Rattle.dm_cli.specs.declared.copying.Stopped.TheVariants as stopped
@@ -22,23 +22,14 @@ Interrupts reason (Interrupted r line) = (r ≡ reason) × (line ≡ interrupted
 Interrupts reason NoMemory = Unit {0}
 Interrupts reason _ = ⊥
 
--- the reason that an answer of the reader is given, where it isn't want of memory
-abbrev pub reason_of_broke : Broke → Option Reason
-reason_of_broke broke.Failed = Some reason.NetworkFailed
-reason_of_broke broke.Timeout = Some reason.NetworkFailed
-reason_of_broke broke.HeadCut = Some reason.NetworkFailed
-reason_of_broke broke.NoMemory = None
-reason_of_broke (broke.Status status) = Some reason.ServerFailed
-reason_of_broke broke.BadForm = Some reason.ServerBadContent
-reason_of_broke (broke.Short have wanted) = Some reason.ServerContentLengthMismatch
-
-abbrev pub EndsWith : Option Reason → Ending → Type 0
-EndsWith None ending = ending ≡ NoMemory
-EndsWith (Some reason) ending = Interrupts reason ending
+-- the ending is the interruption by this cause, and want of memory is its own
+pub record EndsBy (broke : Cause) (ending : Ending) : Type 0 where
+  pub interrupts : Interrupts (reason_of_cause broke) ending
+  pub memory : broke ≡ cause.Memory → ending ≡ NoMemory
 
 -- the ending of a copy that stopped
 abbrev pub EndsStopped : Stopped → Ending → Type 0
-EndsStopped (stopped.Broke broke) ending = EndsWith (reason_of_broke broke) ending
+EndsStopped (stopped.Broke broke) ending = EndsBy broke ending
 EndsStopped (stopped.Disk kind) ending = ending ≡ DiskFailed kind
 
 -- What the last steps do with a part that holds this content, whole.

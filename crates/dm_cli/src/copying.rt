@@ -1,5 +1,5 @@
 // The content of a reply, written into the part piece by piece.
-ghost use Rattle.std.specs.Prelude.{◌≡◌, ◌<◌, ℕ, List, [], Some, None, length, IfOk, OnOk};
+ghost use Rattle.std.specs.Prelude.{◌≡◌, ◌<◌, ℕ, List, [], Some, None, length, IfOk};
 ghost use Rattle.dm_types.specs.Faults.{HasCause};
 ghost use Rattle.dm_disk_model.specs.Disk.{now, Stands, bytes_at};
 ghost use Rattle.dm_disk_model.specs.Names.{KeepsOthers};
@@ -9,7 +9,8 @@ ghost use Rattle.dm_cli.specs.Copying.{LandedSays, Moves, CopySays, stopped_wire
 use dm_disk_model::{Disk, Place};
 use dm_edge::Wire;
 use dm_part::put;
-use dm_reply::{Broke, Got, ReplyReader};
+use dm_policy::Cause;
+use dm_reply::{Got, ReplyReader};
 use dm_types::DiskKind;
 
 /// What became of the next piece.
@@ -24,7 +25,7 @@ pub enum Landed {
 /// Why the copying stopped.
 #[derive(Clone, Copy, Debug)]
 pub enum Stopped {
-    Broke(Broke),
+    Broke(Cause),
     Disk(DiskKind),
 }
 
@@ -61,24 +62,22 @@ fn land_next<D: Disk, W: Wire>(
     }
 }
 
-/// Writes the whole content into the part, which is empty. Each turn but the last writes at least
-/// one byte.
+/// Writes the whole content into the part, which is empty, and says how many bytes it has. Each turn
+/// but the last writes at least one byte, and a content has at most 2^40.
 pub fn copy_content<D: Disk, W: Wire>(
     disk: &mut D,
     wire: &mut W,
     reader: &mut ReplyReader,
     part: &Place,
-    wanted: u64,
     buffer: &mut [u8],
-) -> Result<(), Stopped>
+) -> Result<u64, Stopped>
     requires room { 0 < length buffer.old }
     requires unread { reader.old.given ≡ 0 }
     requires unbroken { reader.old.broke ≡ None }
-    requires wanted { reader.old.wanted ≡ wanted }
     requires made { D.tells → bytes_at (now (D.history disk.old)) part.now ≡ Some [] }
     ensures says { D.tells → W.tells → HasRead (W.told wire.old).given reader.old []
-        → CopySays (W.told wire.new) reader.old (now (D.history disk.new)) part.now result }
-    ensures stands { D.tells → OnOk result (Stands (now (D.history disk.new)) part.now) }
+        → CopySays (W.told wire.new) (now (D.history disk.new)) part.now result }
+    ensures stands { D.tells → IfOk result (λ _. Stands (now (D.history disk.new)) part.now) }
     ensures keeps { D.tells → KeepsOthers part.now (D.history disk.old) (D.history disk.new) }
     ensures sent { W.tells → (W.told wire.new).sent ≡ (W.told wire.old).sent }
     ensures stays { W.asked wire.new ≡ W.asked wire.old }
@@ -89,7 +88,7 @@ pub fn copy_content<D: Disk, W: Wire>(
     loop {
         match land_next(disk, wire, reader, part, at, buffer) {
             Ok(Landed::More(count)) => at += count as u64,
-            Ok(Landed::End) => return Ok(()),
+            Ok(Landed::End) => return Ok(at),
             Err(stopped) => return Err(stopped),
         }
     }

@@ -4,21 +4,23 @@ ghost use Rattle.dm_types.specs.Faults.{HasCause, NoneFell};
 ghost use Rattle.dm_disk_model.specs.Faults.{names_kind};
 ghost use Rattle.dm_disk_model.specs.Disk.{now, bytes_at, Stands};
 ghost use Rattle.dm_disk_model.specs.Names.{NeverStands, LeavesNothingOr, Throughout};
-ghost use Rattle.dm_edge.specs.Wire.{stream_of, IsFresh};
-ghost use Rattle.dm_reply.specs.Content.{HasRead, unread};
+ghost use Rattle.dm_edge.specs.Wire.{stream_of};
+ghost use Rattle.dm_reply.specs.Content.{HasRead};
 ghost use Rattle.dm_words.specs.Name.{IsName, fold_case};
 ghost use Rattle.dm_request.specs.Request.{request_of};
-ghost use Rattle.dm_cli.specs.Get.{file_place, the_part, IsTaken, OnStream, WireFailed, SentFor, GetSays, NeverPartial, NeverPartialOf, LeavesOthers};
-ghost use Rattle.dm_cli.specs.Steps.{Interrupts, reason_of_broke, EndsWith, EndsStopped, FinishSays};
+ghost use Rattle.dm_cli.specs.Causes.{IsTaken, OnWire};
+ghost use Rattle.dm_cli.specs.Get.{file_place, the_part, OnStream, GetSays, NeverPartial, NeverPartialOf, LeavesOthers};
+ghost use Rattle.dm_cli.specs.Steps.{Interrupts, EndsBy, EndsStopped, FinishSays};
 
 use crate::Ending;
 use crate::copying::{Stopped, copy_content};
+use crate::follow::{Aim, Answered, aim_at, follow};
 use dm_disk_model::{Area, Disk, NamesFault, Place};
-use dm_edge::{Net, NetFault, Wire, WireFault};
+use dm_edge::{Net, Wire};
 use dm_part::{make, publish, settle};
-use dm_reply::{Broke, ReplyReader};
-use dm_request::request_text;
-use dm_types::{Address, Attempt, Epoch, ItemId, NoMemory, Reason, Text};
+use dm_policy::{Cause, reason_of};
+use dm_reply::ReplyReader;
+use dm_types::{Address, Epoch, ItemId, NoMemory, Reason, Text};
 use dm_words::{complete_line, interrupted_line, part_name, same_folded};
 use std::alloc::Global;
 
@@ -54,18 +56,13 @@ fn interrupted(alloc: Global, reason: Reason) -> Ending
     }
 }
 
-/// The ending where no whole reply came.
-fn broken(alloc: Global, broke: Broke) -> Ending
-    ensures { EndsWith (reason_of_broke broke) result }
+/// The ending by this cause.
+fn broken(alloc: Global, cause: Cause) -> Ending
+    ensures { EndsBy cause result }
 {
-    match broke {
-        Broke::Failed => interrupted(alloc, Reason::NetworkFailed),
-        Broke::Timeout => interrupted(alloc, Reason::NetworkFailed),
-        Broke::HeadCut => interrupted(alloc, Reason::NetworkFailed),
-        Broke::NoMemory => Ending::NoMemory,
-        Broke::Status(_) => interrupted(alloc, Reason::ServerFailed),
-        Broke::BadForm => interrupted(alloc, Reason::ServerBadContent),
-        Broke::Short { .. } => interrupted(alloc, Reason::ServerContentLengthMismatch),
+    match cause {
+        Cause::Memory => Ending::NoMemory,
+        _ => interrupted(alloc, reason_of(&cause)),
     }
 }
 
@@ -83,7 +80,7 @@ fn stopped_ending(alloc: Global, stopped: Stopped) -> Ending
 fn finish<D: Disk>(
     alloc: Global,
     disk: &mut D,
-    wanted: u64,
+    count: u64,
     name: &[u8],
     part: &Place,
     target: &Place,
@@ -91,7 +88,7 @@ fn finish<D: Disk>(
     requires apart { part.now.name ≢ target.now.name }
     requires one_area { target.now.area ≡ part.now.area }
     requires stands { D.tells → Stands (now (D.history disk.old)) part.now }
-    ensures says { D.tells → (content : List ℕ) → bytes_at (now (D.history disk.old)) part.now ≡ Some content → length content ≡ wanted
+    ensures says { D.tells → (content : List ℕ) → bytes_at (now (D.history disk.old)) part.now ≡ Some content → length content ≡ count
         → FinishSays target.now name.now (now (D.history disk.old)) (now (D.history disk.new)) (D.faults disk.old) (D.faults disk.new) content result }
     ensures partial { D.tells → (content : List ℕ) → bytes_at (now (D.history disk.old)) part.now ≡ Some content
         → NeverStands target.now (now (D.history disk.old))
@@ -103,7 +100,7 @@ fn finish<D: Disk>(
         Ok(()) => {}
         Err(fault) => return Ending::DiskFailed(fault.0),
     }
-    match complete_line(alloc, wanted, name) {
+    match complete_line(alloc, count, name) {
         Ok(line) => match publish(disk, part, target) {
             Ok(()) => Ending::Complete(line),
             Err(fault) => Ending::DiskFailed(fault.0),
@@ -118,7 +115,6 @@ fn store_free<D: Disk, W: Wire>(
     disk: &mut D,
     wire: &mut W,
     reader: &mut ReplyReader,
-    wanted: u64,
     name: &[u8],
     part: &Place,
     target: &Place,
@@ -129,10 +125,9 @@ fn store_free<D: Disk, W: Wire>(
     requires one_area { target.now.area ≡ part.now.area }
     requires unread { reader.old.given ≡ 0 }
     requires unbroken { reader.old.broke ≡ None }
-    requires wanted { reader.old.wanted ≡ wanted }
-    ensures says { D.tells → W.tells → HasRead (W.told wire.old).given reader.old [] → bytes_at (now (D.history disk.old)) target.now ≡ None
+    ensures says { D.tells → W.tells → HasRead (W.told wire.old).given reader.old [] → (IsTaken (now (D.history disk.old)) name.now → ⊥)
         → OnStream target.now name.now (now (D.history disk.old)) (now (D.history disk.new)) (D.faults disk.old) (D.faults disk.new)
-        (WireFailed (W.faults wire.new)) (stream_of (W.told wire.new)) result }
+        (OnWire (W.faults wire.new) (now (D.history disk.old)) name.now (stream_of (W.told wire.new))) (stream_of (W.told wire.new)) result }
     ensures partial { D.tells → W.tells → HasRead (W.told wire.old).given reader.old [] → NeverStands target.now (now (D.history disk.old))
         → Throughout (D.history disk.old) (D.history disk.new) (NeverPartial target.now (stream_of (W.told wire.new))) }
     ensures others { D.tells → LeavesOthers part.now target.now (now (D.history disk.old)) (now (D.history disk.new)) }
@@ -145,8 +140,8 @@ fn store_free<D: Disk, W: Wire>(
         Ok(()) => {}
         Err(fault) => return Ending::DiskFailed(fault.0),
     }
-    match copy_content(disk, wire, reader, part, wanted, buffer) {
-        Ok(()) => finish(alloc, disk, wanted, name, part, target),
+    match copy_content(disk, wire, reader, part, buffer) {
+        Ok(count) => finish(alloc, disk, count, name, part, target),
         Err(stopped) => stopped_ending(alloc, stopped),
     }
 }
@@ -157,7 +152,6 @@ fn store<D: Disk, W: Wire>(
     disk: &mut D,
     wire: &mut W,
     reader: &mut ReplyReader,
-    wanted: u64,
     name: &[u8],
     part: &Place,
     target: &Place,
@@ -169,10 +163,9 @@ fn store<D: Disk, W: Wire>(
     requires target { target.now ≡ file_place name.now }
     requires unread { reader.old.given ≡ 0 }
     requires unbroken { reader.old.broke ≡ None }
-    requires wanted { reader.old.wanted ≡ wanted }
     ensures says { D.tells → W.tells → HasRead (W.told wire.old).given reader.old []
         → OnStream target.now name.now (now (D.history disk.old)) (now (D.history disk.new)) (D.faults disk.old) (D.faults disk.new)
-        (WireFailed (W.faults wire.new)) (stream_of (W.told wire.new)) result }
+        (OnWire (W.faults wire.new) (now (D.history disk.old)) name.now (stream_of (W.told wire.new))) (stream_of (W.told wire.new)) result }
     ensures partial { D.tells → W.tells → HasRead (W.told wire.old).given reader.old [] → NeverStands target.now (now (D.history disk.old))
         → Throughout (D.history disk.old) (D.history disk.new) (NeverPartial target.now (stream_of (W.told wire.new))) }
     ensures others { D.tells → LeavesOthers part.now target.now (now (D.history disk.old)) (now (D.history disk.new)) }
@@ -184,76 +177,30 @@ fn store<D: Disk, W: Wire>(
     match is_taken(alloc, disk, name) {
         Ok(taken) => {
             if taken {
-                return interrupted(alloc, Reason::FileFailed);
+                return broken(alloc, Cause::NamesTaken);
             }
-            store_free(
-                alloc, disk, wire, reader, wanted, name, part, target, buffer,
-            )
+            store_free(alloc, disk, wire, reader, name, part, target, buffer)
         }
         Err(NamesFault::Disk(kind)) => Ending::DiskFailed(kind),
         Err(NamesFault::NoMemory) => Ending::NoMemory,
     }
 }
 
-/// Asks, and brings what the reply holds.
-fn bring<D: Disk, W: Wire>(
-    alloc: Global,
-    disk: &mut D,
-    wire: &mut W,
-    request: &[u8],
-    reader: &mut ReplyReader,
-    name: &[u8],
-    part: &Place,
-    target: &Place,
-    buffer: &mut [u8],
-) -> Ending
-    requires room { 0 < length buffer.old }
-    requires apart { part.now.name ≢ target.now.name }
-    requires one_area { target.now.area ≡ part.now.area }
-    requires target { target.now ≡ file_place name.now }
-    requires unread { reader.old ≡ unread }
-    ensures says { D.tells → W.tells → IsFresh (W.told wire.old)
-        → OnStream target.now name.now (now (D.history disk.old)) (now (D.history disk.new)) (D.faults disk.old) (D.faults disk.new)
-        (WireFailed (W.faults wire.new)) (stream_of (W.told wire.new)) result }
-    ensures partial { D.tells → W.tells → IsFresh (W.told wire.old) → NeverStands target.now (now (D.history disk.old))
-        → Throughout (D.history disk.old) (D.history disk.new) (NeverPartial target.now (stream_of (W.told wire.new))) }
-    ensures others { D.tells → LeavesOthers part.now target.now (now (D.history disk.old)) (now (D.history disk.new)) }
-    ensures sent { W.tells → IsFresh (W.told wire.old) → SentFor request.now (W.told wire.new).sent result }
-    ensures stays { W.asked wire.new ≡ W.asked wire.old }
-    ensures wire_later { NoneFell (W.faults wire.old) (W.faults wire.new) }
-    ensures disk_later { NoneFell (D.faults disk.old) (D.faults disk.new) }
-{
-    match wire.send(request) {
-        Ok(()) => {}
-        Err(WireFault::NoMemory) => return Ending::NoMemory,
-        Err(WireFault::Failed) => return interrupted(alloc, Reason::NetworkFailed),
-        Err(WireFault::Timeout) => return interrupted(alloc, Reason::NetworkFailed),
-    }
-    match reader.head(wire) {
-        Ok(wanted) => store(
-            alloc, disk, wire, reader, wanted, name, part, target, buffer,
-        ),
-        Err(broke) => broken(alloc, broke),
-    }
-}
-
 /// What a get needs of memory before it asks.
 struct Ready {
-    request: Text,
+    aim: Aim,
     part: Place,
     target: Place,
-    reader: ReplyReader,
     buffer: Vec<u8>,
 }
 
-fn make_ready(alloc: Global, name: &[u8], address: &Address) -> Result<Ready, NoMemory>
-    ensures request { IfOk result (λ ready. ready.request ≡ request_of address.now) }
+fn make_ready(alloc: Global, name: &[u8], address: Address) -> Result<Ready, NoMemory>
+    ensures address { IfOk result (λ ready. ready.aim.address ≡ address) }
+    ensures request { IfOk result (λ ready. ready.aim.request ≡ request_of ready.aim.address None) }
     ensures part { IfOk result (λ ready. ready.part ≡ the_part) }
     ensures target { IfOk result (λ ready. ready.target ≡ file_place name.now) }
-    ensures reader { IfOk result (λ ready. ready.reader ≡ unread) }
     ensures buffer { IfOk result (λ ready. 0 < vec_len ready.buffer) }
 {
-    let request = request_text(alloc, address)?;
     let part = Place {
         area: Area::Files,
         name: part_name(alloc, ItemId(1), Epoch(1))?,
@@ -262,33 +209,31 @@ fn make_ready(alloc: Global, name: &[u8], address: &Address) -> Result<Ready, No
         area: Area::Files,
         name: Text::from_bytes(alloc, name)?,
     };
-    let reader = ReplyReader::new(alloc)?;
     let buffer = vec![in alloc; 0; PIECE]?;
+    let aim = aim_at(alloc, address)?;
     Ok(Ready {
-        request,
+        aim,
         part,
         target,
-        reader,
         buffer,
     })
 }
 
-/// Makes the one connection, brings what its reply holds, and hands the connection back.
-fn ask<D: Disk, N: Net>(
+/// Brings the content that a connection is about to give, and hands the connection back.
+fn bring<D: Disk, N: Net>(
     alloc: Global,
     disk: &mut D,
     net: &mut N,
     name: &[u8],
-    address: &Address,
     ready: Ready,
 ) -> Ending
     requires apart { ready.part.name ≢ ready.target.name }
     requires one_area { ready.target.area ≡ ready.part.area }
     requires target { ready.target ≡ file_place name.now }
-    requires unread { ready.reader ≡ unread }
+    requires request { ready.aim.request ≡ request_of ready.aim.address None }
     requires room { 0 < vec_len ready.buffer }
     ensures says { D.tells → N.tells
-        → GetSays ready.target name.now ready.request address.now (now (D.history disk.old)) (now (D.history disk.new)) (D.faults disk.old) (D.faults disk.new)
+        → GetSays ready.target name.now ready.aim.address (now (D.history disk.old)) (now (D.history disk.new)) (D.faults disk.old) (D.faults disk.new)
         (N.faults net.old) (N.faults net.new) (N.closed net.old) (N.closed net.new) result }
     ensures partial { D.tells → N.tells → NeverStands ready.target (now (D.history disk.old))
         → Throughout (D.history disk.old) (D.history disk.new) (NeverPartialOf ready.target (N.closed net.old) (N.closed net.new)) }
@@ -297,20 +242,21 @@ fn ask<D: Disk, N: Net>(
     ensures net_later { NoneFell (N.faults net.old) (N.faults net.new) }
 {
     let Ready {
-        request,
+        aim,
         part,
         target,
-        mut reader,
         mut buffer,
     } = ready;
-    match net.connect(alloc, address, ItemId(1), Attempt(1)) {
-        Ok(wire) => {
-            let mut wire = wire;
-            let ending = bring(
+    match follow(alloc, net, aim) {
+        Ok(answered) => {
+            let Answered {
+                mut wire,
+                mut reader,
+            } = answered;
+            let ending = store(
                 alloc,
                 disk,
                 &mut wire,
-                request.bytes(),
                 &mut reader,
                 name,
                 &part,
@@ -320,26 +266,22 @@ fn ask<D: Disk, N: Net>(
             net.close(wire);
             ending
         }
-        Err(NetFault::NoMemory) => Ending::NoMemory,
-        Err(NetFault::NoRoute) => interrupted(alloc, Reason::NetworkFailed),
-        Err(NetFault::Refused) => interrupted(alloc, Reason::NetworkFailed),
-        Err(NetFault::Timeout) => interrupted(alloc, Reason::NetworkFailed),
-        Err(NetFault::Failed) => interrupted(alloc, Reason::NetworkFailed),
+        Err(cause) => broken(alloc, cause),
     }
 }
 
-/// Brings the whole reply of an address into the file of this name: first into the part, which is
-/// then settled and renamed.
+/// Brings the whole reply of an address, or of the one that its redirects lead to, into the file of
+/// this name: first into the part, which is then settled and renamed.
 pub fn get<D: Disk, N: Net>(
     alloc: Global,
     disk: &mut D,
     net: &mut N,
     name: &[u8],
-    address: &Address,
+    address: Address,
 ) -> Ending
     requires name { IsName name.now }
     ensures says { D.tells → N.tells
-        → GetSays (file_place name.now) name.now (request_of address.now) address.now (now (D.history disk.old)) (now (D.history disk.new)) (D.faults disk.old) (D.faults disk.new)
+        → GetSays (file_place name.now) name.now address (now (D.history disk.old)) (now (D.history disk.new)) (D.faults disk.old) (D.faults disk.new)
         (N.faults net.old) (N.faults net.new) (N.closed net.old) (N.closed net.new) result }
     ensures partial { D.tells → N.tells → NeverStands (file_place name.now) (now (D.history disk.old))
         → Throughout (D.history disk.old) (D.history disk.new) (NeverPartialOf (file_place name.now) (N.closed net.old) (N.closed net.new)) }
@@ -348,7 +290,7 @@ pub fn get<D: Disk, N: Net>(
     ensures net_later { NoneFell (N.faults net.old) (N.faults net.new) }
 {
     match make_ready(alloc, name, address) {
-        Ok(ready) => ask(alloc, disk, net, name, address, ready),
+        Ok(ready) => bring(alloc, disk, net, name, ready),
         Err(NoMemory) => Ending::NoMemory,
     }
 }

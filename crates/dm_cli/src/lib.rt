@@ -3,6 +3,7 @@
 
 mod copying;
 mod ending;
+mod follow;
 mod get;
 mod printing;
 mod run;

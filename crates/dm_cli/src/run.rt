@@ -1,10 +1,10 @@
-ghost use Rattle.std.specs.Prelude.{◌≡◌, ℕ, List, IfSome};
+ghost use Rattle.std.specs.Prelude.{◌≡◌, ℕ, List, IfSome, IfNone};
 ghost use Rattle.dm_types.specs.Faults.{NoneFell};
 ghost use Rattle.dm_disk_model.specs.Disk.{now};
 ghost use Rattle.dm_disk_model.specs.Names.{NeverStands, Throughout};
 ghost use Rattle.dm_words.specs.Command.{IsGet};
 ghost use Rattle.dm_cli.specs.Get.{file_place, NeverPartialOf};
-ghost use Rattle.dm_cli.specs.Run.{RunSays, Completes, Explains, Refused};
+ghost use Rattle.dm_cli.specs.Run.{RunSays, Completes, Explains, Refused, IsSomeGet};
 ghost use Rattle.dm_cli.specs.Print.{PrintsEnding};
 
 use crate::Ending;
@@ -39,7 +39,7 @@ fn run<D: Disk, N: Net>(alloc: Global, words: &[Text], disk: &mut D, net: &mut N
         Err(BadWords) => return Ending::BadWords,
     };
     match read_address(alloc, command.address) {
-        Ok(address) => get(alloc, disk, net, command.name, &address),
+        Ok(address) => get(alloc, disk, net, command.name, address),
         Err(AddressFault::NoMemory) => Ending::NoMemory,
         Err(AddressFault::TooLong(_)) => Ending::BadAddress,
         Err(AddressFault::NotUrl) => Ending::BadAddress,
@@ -67,7 +67,7 @@ pub fn run_words<D: Disk, N: Net, C: Clock, S: Sink>(
         × (D.tells → N.tells → Completes words.now (now (D.history disk)) (D.faults disk) (D.faults result.disk)
         (N.faults net.old) (N.faults net.new) (N.closed net.old) (N.closed net.new) ending)) }
 
-    // Whenever a crash comes, the name has nothing or the whole content of the one connection's reply.
+    // Whenever a crash comes, the name has nothing or the whole content of the last connection's reply.
     ensures partial { D.tells → N.tells → (name address : List ℕ) → IsGet words.now name address → NeverStands (file_place name) (now (D.history disk))
         → Throughout (D.history disk) (D.history result.disk) (NeverPartialOf (file_place name) (N.closed net.old) (N.closed net.new)) }
     ensures disk_later { NoneFell (D.faults disk) (D.faults result.disk) }
@@ -83,7 +83,8 @@ pub fn run_words<D: Disk, N: Net, C: Clock, S: Sink>(
 /// Whether the words are refused before any disk is looked at, and how: they are no command, or
 /// their address is refused. `None` where they are a command, or memory was wanting to read it.
 pub fn refused(alloc: Global, words: &[Text]) -> Option<Ending>
-    ensures { IfSome result (Refused words.now) }
+    ensures refused { IfSome result (Refused words.now) }
+    ensures none { IfNone result (IsSomeGet words.now) }
 {
     let command = match read_command(words) {
         Ok(command) => command,

@@ -1,7 +1,11 @@
 pub mod Chain
 pub mod Counts
+pub mod Fair
 pub mod Faults
+pub mod Fields
+pub mod Head
 pub mod Origin
+pub mod Reply
 pub mod Script
 pub mod Sink
 pub mod SinkMem

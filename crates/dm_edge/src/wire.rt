@@ -1,6 +1,7 @@
 ghost use Rattle.std.specs.Prelude.{◌≡◌, ◌≤◌, ℕ, length, IfOk};
 ghost use Rattle.dm_types.specs.Faults.{HasCause};
 ghost use Rattle.dm_edge.specs.Faults.{wire_kind};
+ghost use Rattle.dm_edge.specs.Fair.{IsHonest};
 ghost use Rattle.dm_edge.specs.Wire.{Asked, Told, Sends, Receives};
 ghost use Rattle.dm_edge.specs.declared.fault.WireFault.{WireFault as Fault};
 
@@ -36,4 +37,7 @@ pub trait Wire {
         ensures given { tells → Receives (told self.old) (told self.new) result buf.new }
         ensures stays { (asked self.new ≡ asked self.old) × (origin self.new ≡ origin self.old) }
         ensures cause { HasCause wire_kind (faults self.old) (faults self.new) result };
+
+    /// It brings only what its origin says, or its origin says every byte.
+    ghost honest: { (wire : Self) → IsHonest tells (Self.O.says (origin wire)) (asked wire) (told wire) };
 }

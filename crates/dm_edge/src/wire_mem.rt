@@ -90,6 +90,10 @@ impl Wire for WireMem {
 
     ghost faults = { λ w. wire_count w.counts };
 
+    ghost use Rattle.std.proofs.Common.{inl};
+
+    ghost honest = { λ _. inl (λ _ _ _ _. tt) };
+
     fn send(&mut self, piece: &[u8]) -> Result<(), WireFault>
         ensures sent { Sends self.old.told self.new.told result piece.now }
         ensures stays { self.new.asked ≡ self.old.asked }

@@ -46,6 +46,10 @@ impl<S: Read + Write + Drop> Wire for TcpWire<S> {
 
     ghost faults = { wire_count };
 
+    ghost use Rattle.std.proofs.Common.{inl};
+
+    ghost honest = { λ _. inl (λ _ _ _ _. tt) };
+
     fn send(&mut self, piece: &[u8]) -> Result<(), WireFault> {
         let sent = send_all(&mut self.stream, piece);
         if let Err(fault) = sent {

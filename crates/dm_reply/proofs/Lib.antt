@@ -1,7 +1,6 @@
-pub mod FieldLemmas
+pub mod AheadLemmas
+pub mod StreamLemmas
+pub mod PlainLemmas
+pub mod ChunkLemmas
 pub mod HeadLemmas
-pub mod ManyLines
-pub mod ReceivingLemmas
-pub mod ContentLemmas
-pub mod LineLemmas
 pub mod Outcomes

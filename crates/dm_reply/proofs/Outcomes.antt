@@ -1,174 +1,271 @@
--- A stream has one outcome: no two of the definitions hold of it, nor one of them twice.
-use Rattle.std.proofs.Common.{◌≡◌, ◌≢◌, ℕ, ◌-◌, ◌<◌, ◌≤◌, inl, inr, false, List, [], ◌∷◌, ◌++◌, length, take, drop, refl, sym, ap, ◌∙◌, subst, arith, Option, Some, None, append_assoc, length-append, if◌then◌else◌, ◌==◌}
-use Rattle.std.specs.Prelude.{nat_lt}
-use Rattle.std.proofs.lemmas.Bool.{cases_lt, lt-ltb, le-ltb, ne_eqb}
-use Rattle.std.proofs.lemmas.List.{append-nil, take_all, take_at}
-use Rattle.httparse.specs.Grammar.{lf, print_end, ResponseHead, print_response, ReadsResponse, status_code}
-use Rattle.httparse.proofs.GrammarLemmas.{response_unique}
-use Rattle.dm_reply.specs.Fields.{plain_length}
-use Rattle.dm_reply.specs.Head.{most_head, most_fields, fields_of, BeginsWith, HasManyLines, IsBadHead, never, long, many, IsHeadCut}
-use Rattle.dm_reply.specs.Reply.{IsWhole, IsShort, HasStatus, IsBadForm, ok_status}
-use Rattle.dm_reply.proofs.HeadLemmas.{take_past}
-use Rattle.dm_reply.proofs.LineLemmas.{head_lines, begun_if_many, begins_other}
-use Rattle.dm_reply.proofs.ManyLines.{cut_at}
-use Rattle.dm_reply.specs.Lines.{lines_begun}
+-- A content ends in at most one way.
+use Rattle.std.proofs.Common.{◌≡◌, ℕ, ◌≤◌, ◌⊎◌, inl, inr, List, [], ◌∷◌, ◌++◌, length, take, refl, sym, ap, ◌∙◌, subst, arith, append_assoc, length-append}
+use Rattle.std.proofs.lemmas.List.{append-nil, take_at, append_cancel_left}
+use Rattle.httparse.specs.Grammar.{ResponseHead}
+use Rattle.dm_policy.specs.declared.cause.Cause.{Cause}
+use Rattle.dm_policy.specs.declared.cause.Cause.TheVariants as cause
+use Rattle.dm_chunk.specs.Grammar.{IsChunked}
+use Rattle.dm_chunk.specs.Fronts.{Begins, Brings, IsFrontOf, IsBadChunked}
+use Rattle.dm_chunk.proofs.ListLemmas.{fronts, head_is}
+use Rattle.dm_chunk.proofs.LawLemmas.{one_chunked, one_front, one_bad, chunked_no_front, chunked_not_bad, front_not_bad}
+use Rattle.dm_edge.specs.declared.framing.Framing.{Framing}
+use Rattle.dm_edge.specs.declared.framing.Framing.TheVariants as framing
+use Rattle.dm_edge.specs.Reply.{BeginsContent, BeginsRedirect, IsWhole, EndsWhole, EndsShort, KeepsLimit, most_content, HeadBroke, ContentBroke, IsOfWire}
+use Rattle.dm_edge.specs.Reply.{Brings as BringsFramed}
+use Rattle.dm_head.specs.Laws.{Content, Redirect, Broke, Ninth}
+use Rattle.dm_head.proofs.Outcomes.{one_outcome}
+use Rattle.dm_reply.specs.Laws.{Ending, Whole, Short, BadlyChunked, Overfull, IsEnding, OneEnding, WholeAlone}
 
--- ---- a head within the limits leaves no room for a bad head or a cut one
+-- ---- by the framing, and the bytes behind the head
 
-reads_in_limit : {stream rest : List ℕ} {h : ResponseHead} → BeginsWith stream h rest
-    → ReadsResponse (take most_head stream) h (take (most_head - length (print_response h)) rest)
-reads_in_limit {stream} {rest} {h} b =
-    (b.reads.0, ap (take most_head) b.reads.1 ∙ take_past most_head (print_response h) rest b.size)
+record Over (told : Framing) (rest content : List ℕ) : Type 0 where
+  bytes : List ℕ
+  after : List ℕ
+  more : ℕ
+  parts : rest ≡ bytes ++ after
+  brings : BringsFramed told bytes (content ++ more ∷ [])
+  full : length content ≡ most_content
 
-many_not_whole : (text : List ℕ) (h : ResponseHead) (rest : List ℕ) → HasManyLines text → ReadsResponse text h rest
-    → length h.fields ≤ most_fields → ⊥
-many_not_whole text h rest m reads few =
-    let same : print_response h ++ rest ≡ m.lines ++ m.next ∷ m.rest = sym reads.1 ∙ m.is in
-    elim (cases_lt (length m.lines) (length (print_response h))) [
-      | inl longer ↦
-          let cut = cut_at (print_response h) rest m.lines m.rest m.next longer same in
-          let in_head : HasManyLines (print_response h) = record {
-            lines = m.lines;
-            next = m.next;
-            rest = cut.0;
-            is = cut.1;
-            head = m.head;
-            reads = m.reads;
-            last = m.last;
-            count = m.count;
-            in_line = m.in_line;
-          } in
-          let begun = begun_if_many (print_response h) in_head in
-          let count = sym (ap (lines_begun false) (append-nil (print_response h))) ∙ head_lines h reads.0 in
-          absurd (omega (arith, begun, count, few))
-      | inr shorter ↦
-          let other = begins_other (print_response h) rest m.lines (m.next ∷ m.rest) same shorter in
-          let tail = drop (length (print_response h)) m.lines in
-          let again : ReadsResponse (m.lines ++ print_end lf) h (tail ++ print_end lf) =
-          (reads.0, ap (λ t. t ++ print_end lf) other ∙ append_assoc (print_response h) tail (print_end lf)) in
-          let unique = response_unique (m.lines ++ print_end lf) m.head h [] (tail ++ print_end lf) m.reads again in
-          absurd (omega (arith, ap length unique.1, length-append tail (print_end lf)))
-    ]
+abbrev Ends : Framing → List ℕ → Ending → Type 0
+Ends told rest (Whole content) = EndsWhole told rest content × (length content ≤ most_content)
+Ends told rest (Short content wanted) = EndsShort told rest content wanted × (length content ≤ most_content)
+Ends told rest (BadlyChunked content) = (told ≡ framing.Chunked) × IsBadChunked rest content × (length content ≤ most_content)
+Ends told rest (Overfull content) = Over told rest content
 
-pub begins_not_bad : {stream rest : List ℕ} {h : ResponseHead} → BeginsWith stream h rest → IsBadHead stream → ⊥
-begins_not_bad {stream} {rest} {h} b (never none) =
-    let reads = reads_in_limit b in
-    none [] h (take (most_head - length (print_response h)) rest) (reads.0, append-nil (take most_head stream) ∙ reads.1)
-begins_not_bad {stream} {rest} {h} b (long full none) = none h _ (reads_in_limit b)
-begins_not_bad {stream} {rest} {h} b (many m) = many_not_whole (take most_head stream) h _ m (reads_in_limit b) b.count
-
-pub begins_not_cut : {stream rest : List ℕ} {h : ResponseHead} → BeginsWith stream h rest → IsHeadCut stream → ⊥
-begins_not_cut {stream} {rest} {h} b cut = cut.none h rest b.reads
-
-pub bad_not_cut : (stream : List ℕ) → IsBadHead stream → IsHeadCut stream → ⊥
-bad_not_cut stream bad cut = of_case bad
-  where
-    whole : take most_head stream ≡ stream
-    whole = take_all most_head stream (omega (arith, cut.short))
-
-    of_case : IsBadHead stream → ⊥
-    of_case (never none) =
-        let may = cut.open_head in
-        none may.0 may.1 [] (may.2.0, ap (λ t. t ++ may.0) whole ∙ may.2.1)
-    of_case (long full none) = absurd (omega (arith, full, cut.short))
-    of_case (many m) = cut.few (subst HasManyLines whole m)
-
--- ---- the outcomes
-
-pub data Outcome : Type 0 where
-  Whole : List ℕ → Outcome
-  Short : List ℕ → ℕ → Outcome
-  Other : ℕ → Outcome
-  Bad : Outcome
-  Cut : Outcome
-
-abbrev pub IsOutcome : List ℕ → Outcome → Type 0
-IsOutcome stream (Whole content) = IsWhole stream content
-IsOutcome stream (Short content wanted) = IsShort stream content wanted
-IsOutcome stream (Other status) = HasStatus stream status
-IsOutcome stream Bad = IsBadForm stream
-IsOutcome stream Cut = IsHeadCut stream
-
--- what a head and the rest after it amount to
-abbrev of_length : List ℕ → Option ℕ → Outcome
-of_length rest None = Bad
-of_length rest (Some n) = if nat_lt (length rest) n then Short rest n else Whole (take n rest)
-
-abbrev of_head : ℕ → Option ℕ → List ℕ → Outcome
-of_head status found rest = if status == ok_status then of_length rest found else Other status
-
-record IsBegun (stream : List ℕ) (outcome : Outcome) : Type 0 where
+record Ended (stream : List ℕ) (ending : Ending) : Type 0 where
   head : ResponseHead
+  told : Framing
   rest : List ℕ
-  begins : BeginsWith stream head rest
-  is : outcome ≡ of_head (status_code head) (plain_length (fields_of head)) rest
+  begins : BeginsContent stream head told rest
+  ends : Ends told rest ending
 
-data Cases (stream : List ℕ) (outcome : Outcome) : Type 0 where
-  begun : IsBegun stream outcome → Cases stream outcome
-  bad : IsBadHead stream → outcome ≡ Bad → Cases stream outcome
-  cut : IsHeadCut stream → outcome ≡ Cut → Cases stream outcome
+ended : (stream : List ℕ) (ending : Ending) → IsEnding stream ending → Ended stream ending
+ended stream (Whole content) e = record { head = e.head; told = e.framing; rest = e.rest; begins = e.begins; ends = (e.whole, e.limit) }
+ended stream (Short content wanted) e = record { head = e.head; told = e.framing; rest = e.rest; begins = e.begins; ends = (e.short, e.limit) }
+ended stream (BadlyChunked content) e = record { head = e.head; told = framing.Chunked; rest = e.rest; begins = e.begins; ends = (refl, e.bad, e.limit) }
+ended stream (Overfull content) e = record {
+  head = e.head;
+  told = e.framing;
+  rest = e.bytes ++ e.after;
+  begins = e.begins;
+  ends = record { bytes = e.bytes; after = e.after; more = e.more; parts = refl; brings = e.brings; full = e.full };
+}
 
-at_ok : (status : ℕ) (found given : Option ℕ) (rest : List ℕ) → status ≡ ok_status → found ≡ given
-    → of_head status found rest ≡ of_length rest given
-at_ok status found given rest ok is =
-    ap (λ (s : ℕ). of_head s found rest) ok ∙ ap (of_length rest) is
+-- ---- lists
 
-whole_at : (content after : List ℕ) → of_length (content ++ after) (Some (length content)) ≡ Whole content
-whole_at content after =
-    rw (le-ltb (length (content ++ after)) (length content) (omega (arith, length-append content after)))
-    (ap Whole (take_at content after (length content) refl))
+same_front : (a x b y : List ℕ) → a ++ x ≡ b ++ y → length a ≡ length b → a ≡ b
+same_front a x b y e size = sym (take_at a x (length b) size) ∙ ap (take (length b)) e ∙ take_at b y (length b) refl
 
-short_at : (content : List ℕ) (wanted : ℕ) → length content < wanted → of_length content (Some wanted) ≡ Short content wanted
-short_at content wanted fewer = rw (lt-ltb (length content) wanted fewer) refl
+longer : (whole front : List ℕ) → Begins whole front → length front ≤ length whole
+longer whole front b = let e = ap length b.parts in omega (arith, e, length-append front b.rest)
 
-other_at : (status : ℕ) (found : Option ℕ) (rest : List ℕ) → status ≢ ok_status → of_head status found rest ≡ Other status
-other_at status found rest other = rw (ne_eqb status ok_status other) refl
+same_all : (a b : List ℕ) (x y : ℕ) → length a ≡ length b → Begins (a ++ x ∷ []) (b ++ y ∷ []) → a ≡ b
+same_all a b x y size h =
+    same_front a (x ∷ []) b (y ∷ h.rest) (h.parts ∙ append_assoc b (y ∷ []) h.rest) size
 
-cases_of : (stream : List ℕ) (outcome : Outcome) → IsOutcome stream outcome → Cases stream outcome
-cases_of stream (Whole content) w = begun (record {
-  head = w.plain.head;
-  rest = content ++ w.after;
-  begins = w.plain.begins;
-  is = sym (at_ok _ _ _ (content ++ w.after) w.plain.status w.plain.framing ∙ whole_at content w.after);
-})
-cases_of stream (Short content wanted) w = begun (record {
-  head = w.plain.head;
-  rest = content;
-  begins = w.plain.begins;
-  is = sym (at_ok _ _ _ content w.plain.status w.plain.framing ∙ short_at content wanted w.fewer);
-})
-cases_of stream (Other status) w = begun (record {
-  head = w.head;
-  rest = w.rest;
-  begins = w.begins;
-  is = ap Other (sym w.status_is) ∙ sym (other_at (status_code w.head) (plain_length (fields_of w.head)) w.rest (λ e. w.other (sym w.status_is ∙ e)));
-})
-cases_of stream Bad (inl head) = bad head refl
-cases_of stream Bad (inr w) = begun (record {
-  head = w.head;
-  rest = w.rest;
-  begins = w.begins;
-  is = sym (at_ok _ _ _ w.rest w.status w.framing);
-})
-cases_of stream Cut w = cut w refl
+-- ---- to the connection's end
 
-same_begun : {stream : List ℕ} {a b : Outcome} → IsBegun stream a → IsBegun stream b → a ≡ b
-same_begun {stream} x y =
-    let unique = response_unique stream x.head y.head x.rest y.rest x.begins.reads y.begins.reads in
-    x.is ∙ ap (λ (h : ResponseHead). of_head (status_code h) (plain_length (fields_of h)) x.rest) unique.0
-    ∙ ap (of_head (status_code y.head) (plain_length (fields_of y.head))) unique.1 ∙ sym y.is
+to_end_one : (rest : List ℕ) (a b : Ending) → Ends framing.ToEnd rest a → Ends framing.ToEnd rest b → a ≡ b
+to_end_one rest (Whole a) (Whole b) x y = ap Whole (sym x.0 ∙ y.0)
+to_end_one rest (Whole a) (Overfull b) x y =
+    absurd (omega (arith, x.1, ap length x.0, ap length y.parts, ap length y.brings, y.full, length-append b (y.more ∷ []), length-append y.bytes y.after))
+to_end_one rest (Overfull a) (Whole b) x y =
+    absurd (omega (arith, y.1, ap length y.0, ap length x.parts, ap length x.brings, x.full, length-append a (x.more ∷ []), length-append x.bytes x.after))
+to_end_one rest (Overfull a) (Overfull b) x y =
+    ap Overfull (same_front a (x.more ∷ x.after) b (y.more ∷ y.after)
+    (sym (ap (λ t. t ++ x.after) x.brings ∙ append_assoc a (x.more ∷ []) x.after) ∙ sym x.parts ∙ y.parts
+    ∙ ap (λ t. t ++ y.after) y.brings ∙ append_assoc b (y.more ∷ []) y.after)
+    (x.full ∙ sym y.full))
+to_end_one rest (Short a v) b x y = absurd x.0
+to_end_one rest (Whole a) (Short b w) x y = absurd y.0
+to_end_one rest (Overfull a) (Short b w) x y = absurd y.0
+to_end_one rest (BadlyChunked a) b x y = absurd (let wrong = x.0 in cc)
+to_end_one rest (Whole a) (BadlyChunked b) x y = absurd (let wrong = y.0 in cc)
+to_end_one rest (Overfull a) (BadlyChunked b) x y = absurd (let wrong = y.0 in cc)
 
-same_cases : (stream : List ℕ) (a b : Outcome) → Cases stream a → Cases stream b → a ≡ b
-same_cases stream a b (begun x) (begun y) = same_begun x y
-same_cases stream a b (begun x) (bad y e) = absurd (begins_not_bad x.begins y)
-same_cases stream a b (begun x) (cut y e) = absurd (begins_not_cut x.begins y)
-same_cases stream a b (bad x e) (begun y) = absurd (begins_not_bad y.begins x)
-same_cases stream a b (bad x d) (bad y e) = d ∙ sym e
-same_cases stream a b (bad x d) (cut y e) = absurd (bad_not_cut stream x y)
-same_cases stream a b (cut x d) (begun y) = absurd (begins_not_cut y.begins x)
-same_cases stream a b (cut x d) (bad y e) = absurd (bad_not_cut stream y x)
-same_cases stream a b (cut x d) (cut y e) = d ∙ sym e
+-- ---- counted
 
--- a stream has at most one outcome
-pub one_outcome : (stream : List ℕ) (a b : Outcome) → IsOutcome stream a → IsOutcome stream b → a ≡ b
-one_outcome stream a b x y = same_cases stream a b (cases_of stream a x) (cases_of stream b y)
+no_over : (count : ℕ) (rest content : List ℕ) → count ≤ most_content → Over (framing.Counted count) rest content → ⊥
+no_over count rest content limit o = absurd (omega (arith, limit, o.brings.1, o.full, length-append content (o.more ∷ [])))
+
+counted_one : (count : ℕ) (rest : List ℕ) (a b : Ending) → count ≤ most_content
+    → Ends (framing.Counted count) rest a → Ends (framing.Counted count) rest b → a ≡ b
+counted_one count rest (Whole a) (Whole b) limit x y =
+    ap Whole (same_front a x.0.0 b y.0.0 (sym x.0.1 ∙ y.0.1) (x.0.2 ∙ sym y.0.2))
+counted_one count rest (Whole a) (Short b w) limit x y =
+    absurd (omega (arith, ap length x.0.1, x.0.2, ap length y.0.0, y.0.1, length-append a x.0.0))
+counted_one count rest (Short a v) (Whole b) limit x y =
+    absurd (omega (arith, ap length y.0.1, y.0.2, ap length x.0.0, x.0.1, length-append b y.0.0))
+counted_one count rest (Short a v) (Short b w) limit x y =
+    let same : a ≡ b = sym x.0.0 ∙ y.0.0 in
+    let told : v ≡ w = x.0.2 ∙ sym y.0.2 in
+    cc
+counted_one count rest (Overfull a) b limit x y = absurd (no_over count rest a limit x)
+counted_one count rest (Whole a) (Overfull b) limit x y = absurd (no_over count rest b limit y)
+counted_one count rest (Short a v) (Overfull b) limit x y = absurd (no_over count rest b limit y)
+counted_one count rest (BadlyChunked a) b limit x y = absurd (let wrong = x.0 in cc)
+counted_one count rest (Whole a) (BadlyChunked b) limit x y = absurd (let wrong = y.0 in cc)
+counted_one count rest (Short a v) (BadlyChunked b) limit x y = absurd (let wrong = y.0 in cc)
+
+-- ---- in chunks
+
+brings_more : (text more front : List ℕ) → Brings text front → Brings (text ++ more) front
+brings_more text more front b = λ further content behind c.
+    b (more ++ further) content behind (subst (λ (t : List ℕ). IsChunked t content behind) (append_assoc text more further) c)
+
+-- what one byte too many brings is longer than a content may be
+too_long : (content whole : List ℕ) (more : ℕ) → length content ≡ most_content → length whole ≤ most_content
+    → Begins whole (content ++ more ∷ []) → ⊥
+too_long content whole more full limit b =
+    absurd (omega (arith, full, limit, longer whole (content ++ more ∷ []) b, length-append content (more ∷ [])))
+
+over_brings : {rest content : List ℕ} → (o : Over framing.Chunked rest content) → Brings rest (content ++ o.more ∷ [])
+over_brings {rest} {content} o =
+    subst (λ (t : List ℕ). Brings t (content ++ o.more ∷ [])) (sym o.parts) (brings_more o.bytes o.after (content ++ o.more ∷ []) o.brings.brought)
+
+over_not_whole : {rest content whole behind : List ℕ} → Over framing.Chunked rest content → IsChunked rest whole behind → length whole ≤ most_content → ⊥
+over_not_whole {rest} {content} {whole} {behind} o c limit =
+    too_long content whole o.more o.full limit
+    (over_brings o [] whole behind (subst (λ (t : List ℕ). IsChunked t whole behind) (sym (append-nil rest)) c))
+
+over_not_front : {rest content front : List ℕ} → Over framing.Chunked rest content → IsFrontOf rest front → length front ≤ most_content → ⊥
+over_not_front {rest} {content} {front} o f limit = too_long content front o.more o.full limit (f.all (content ++ o.more ∷ []) (over_brings o))
+
+over_not_bad : {rest content brought : List ℕ} → Over framing.Chunked rest content → IsBadChunked rest brought → length brought ≤ most_content → ⊥
+over_not_bad {rest} {content} {brought} o bad limit = of_case (fronts o.bytes o.after bad.front (bad.byte ∷ bad.rest) (sym o.parts ∙ bad.parts))
+  where
+    from_bytes : (r : List ℕ) → bad.front ≡ o.bytes ++ r → ⊥
+    from_bytes r e =
+        too_long content brought o.more o.full limit
+        (bad.before.all (content ++ o.more ∷ [])
+        (subst (λ (t : List ℕ). Brings t (content ++ o.more ∷ [])) (sym e) (brings_more o.bytes r (content ++ o.more ∷ []) o.brings.brought)))
+
+    from_front : (r : List ℕ) → o.bytes ≡ bad.front ++ r → ⊥
+    from_front [] e = from_bytes [] (sym (e ∙ append-nil bad.front) ∙ sym (append-nil o.bytes))
+    from_front (x ∷ r) e =
+        let both : bad.front ++ x ∷ (r ++ o.after) ≡ bad.front ++ bad.byte ∷ bad.rest =
+        sym (ap (λ t. t ++ o.after) e ∙ append_assoc bad.front (x ∷ r) o.after) ∙ sym o.parts ∙ bad.parts
+        in
+        let byte = head_is x bad.byte (r ++ o.after) bad.rest (append_cancel_left bad.front (x ∷ (r ++ o.after)) (bad.byte ∷ bad.rest) both) in
+        let on = o.brings.goes_on in
+        bad.stops (record {
+          more = r ++ on.more;
+          content = on.content;
+          after = on.after;
+          chunked = subst (λ (t : List ℕ). IsChunked t on.content on.after)
+              (ap (λ t. t ++ on.more) (e ∙ ap (λ (b : ℕ). bad.front ++ b ∷ r) byte) ∙ append_assoc bad.front (bad.byte ∷ r) on.more
+              ∙ sym (append_assoc bad.front (bad.byte ∷ []) (r ++ on.more)))
+              on.chunked;
+        })
+
+    of_case : Begins o.bytes bad.front ⊎ Begins bad.front o.bytes → ⊥
+    of_case (inl b) = from_front b.rest b.parts
+    of_case (inr b) = from_bytes b.rest b.parts
+
+over_one : {rest a b : List ℕ} → Over framing.Chunked rest a → Over framing.Chunked rest b → a ≡ b
+over_one {rest} {a} {b} x y = of_case (fronts x.bytes x.after y.bytes y.after (sym x.parts ∙ y.parts))
+  where
+    of_case : Begins x.bytes y.bytes ⊎ Begins y.bytes x.bytes → a ≡ b
+    of_case (inl h) =
+        same_all a b x.more y.more (x.full ∙ sym y.full)
+        (x.brings.all (b ++ y.more ∷ []) (subst (λ (t : List ℕ). Brings t (b ++ y.more ∷ [])) (sym h.parts) (brings_more y.bytes h.rest (b ++ y.more ∷ []) y.brings.brought)))
+    of_case (inr h) =
+        sym (same_all b a y.more x.more (y.full ∙ sym x.full)
+        (y.brings.all (a ++ x.more ∷ []) (subst (λ (t : List ℕ). Brings t (a ++ x.more ∷ [])) (sym h.parts) (brings_more x.bytes h.rest (a ++ x.more ∷ []) x.brings.brought))))
+
+chunked_one : (rest : List ℕ) (a b : Ending) → Ends framing.Chunked rest a → Ends framing.Chunked rest b → a ≡ b
+chunked_one rest (Whole a) (Whole b) x y = ap Whole (one_chunked rest a x.0.0 b y.0.0 x.0.1 y.0.1).0
+chunked_one rest (Whole a) (Short b w) x y = absurd (chunked_no_front rest a x.0.0 b x.0.1 y.0.0)
+chunked_one rest (Whole a) (BadlyChunked b) x y = absurd (chunked_not_bad rest a x.0.0 b x.0.1 y.1)
+chunked_one rest (Whole a) (Overfull b) x y = absurd (over_not_whole y x.0.1 x.1)
+chunked_one rest (Short a v) (Whole b) x y = absurd (chunked_no_front rest b y.0.0 a y.0.1 x.0.0)
+chunked_one rest (Short a v) (Short b w) x y =
+    let same = one_front rest a b x.0.0 y.0.0 in
+    let told : v ≡ w = x.0.1 ∙ sym y.0.1 in
+    cc
+chunked_one rest (Short a v) (BadlyChunked b) x y = absurd (front_not_bad rest a b x.0.0 y.1)
+chunked_one rest (Short a v) (Overfull b) x y = absurd (over_not_front y x.0.0 x.1)
+chunked_one rest (BadlyChunked a) (Whole b) x y = absurd (chunked_not_bad rest b y.0.0 a y.0.1 x.1)
+chunked_one rest (BadlyChunked a) (Short b w) x y = absurd (front_not_bad rest b a y.0.0 x.1)
+chunked_one rest (BadlyChunked a) (BadlyChunked b) x y = ap BadlyChunked (one_bad rest a b x.1 y.1)
+chunked_one rest (BadlyChunked a) (Overfull b) x y = absurd (over_not_bad y x.1 x.2)
+chunked_one rest (Overfull a) (Whole b) x y = absurd (over_not_whole x y.0.1 y.1)
+chunked_one rest (Overfull a) (Short b w) x y = absurd (over_not_front x y.0.0 y.1)
+chunked_one rest (Overfull a) (BadlyChunked b) x y = absurd (over_not_bad x y.1 y.2)
+chunked_one rest (Overfull a) (Overfull b) x y = ap Overfull (over_one x y)
+
+-- ---- the law
+
+ends_one : (told : Framing) (rest : List ℕ) (a b : Ending) → KeepsLimit told → Ends told rest a → Ends told rest b → a ≡ b
+ends_one framing.Chunked rest a b limit x y = chunked_one rest a b x y
+ends_one (framing.Counted count) rest a b limit x y = counted_one count rest a b limit x y
+ends_one framing.ToEnd rest a b limit x y = to_end_one rest a b x y
+
+same_place : {stream : List ℕ} {a b : Ending} → (x : Ended stream a) → (y : Ended stream b) → (x.told ≡ y.told) × (x.rest ≡ y.rest)
+same_place {stream} x y =
+    let same = one_outcome stream (Content x.head x.told x.rest) (Content y.head y.told y.rest) x.begins y.begins in
+    ((cc), (cc))
+
+pub one_ending : OneEnding
+one_ending stream a b is other =
+    let x = ended stream a is in
+    let y = ended stream b other in
+    let same = same_place x y in
+    ends_one x.told x.rest a b x.begins.limit x.ends
+    (subst (λ (t : Framing). Ends t x.rest b) (sym same.0) (subst (λ (r : List ℕ). Ends y.told r b) (sym same.1) y.ends))
+
+-- ---- what is whole is nothing else
+
+one_whole : (stream content other : List ℕ) → IsWhole stream content → IsWhole stream other → content ≡ other
+one_whole stream content other w v = let same = one_ending stream (Whole content) (Whole other) w v in cc
+
+whole_no_redirect : (stream content : List ℕ) (head : ResponseHead) (location : List ℕ) → IsWhole stream content → BeginsRedirect stream head location → ⊥
+whole_no_redirect stream content head location w r =
+    let same = one_outcome stream (Content w.head w.framing w.rest) (Redirect head location) w.begins r in
+    absurd cc
+
+whole_head : (stream content : List ℕ) (broke : Cause) → IsWhole stream content → HeadBroke stream broke → IsOfWire broke
+whole_head stream content broke w (inl wire) = wire
+whole_head stream content broke w (inr (inl ninth)) =
+    let same = one_outcome stream (Content w.head w.framing w.rest) (Ninth ninth.0) w.begins ninth.2 in
+    absurd cc
+whole_head stream content broke w (inr (inr met)) =
+    let same = one_outcome stream (Content w.head w.framing w.rest) (Broke broke) w.begins met in
+    absurd cc
+
+whole_content : (stream content given : List ℕ) (broke : Cause) → IsWhole stream content → ContentBroke stream given broke
+    → IsOfWire broke ⊎ (broke ≡ cause.Memory)
+whole_content stream content given cause.NetFailed w met = inl (inl refl)
+whole_content stream content given cause.NetTimeout w met = inl (inr refl)
+whole_content stream content given cause.Memory w met = inr refl
+whole_content stream content given (cause.ContentShort have wanted) w met =
+    let same = one_ending stream (Whole content) (Short given wanted) w met.0 in absurd cc
+whole_content stream content given cause.BadFraming w met =
+    let same = one_ending stream (Whole content) (BadlyChunked given) w met in absurd cc
+whole_content stream content given (cause.TooLarge total) w met =
+    let same = one_ending stream (Whole content) (Overfull given) w met.0 in absurd cc
+whole_content stream content given cause.HeadCut w met = absurd met
+whole_content stream content given (cause.Status status) w met = absurd met
+whole_content stream content given cause.BadHead w met = absurd met
+whole_content stream content given cause.Encoded w met = absurd met
+whole_content stream content given (cause.File kind) w met = absurd met
+whole_content stream content given cause.NamesTaken w met = absurd met
+whole_content stream content given cause.BothStand w met = absurd met
+whole_content stream content given (cause.PartShort have wanted) w met = absurd met
+whole_content stream content given (cause.DigestDiffers have wanted) w met = absurd met
+whole_content stream content given cause.NetNoRoute w met = absurd met
+whole_content stream content given cause.NetRefused w met = absurd met
+whole_content stream content given cause.BadLocation w met = absurd met
+whole_content stream content given cause.TooManyRedirects w met = absurd met
+whole_content stream content given (cause.RangeRefused status) w met = absurd met
+whole_content stream content given cause.Cancel w met = absurd met
+whole_content stream content given cause.Shutdown w met = absurd met
+whole_content stream content given cause.Crash w met = absurd met
+
+pub whole_alone : WholeAlone
+whole_alone = record {
+  one_content = one_whole;
+  no_redirect = whole_no_redirect;
+  no_head_cause = whole_head;
+  no_content_cause = whole_content;
+}

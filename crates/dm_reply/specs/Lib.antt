@@ -1,11 +1,10 @@
+pub mod Ahead
+pub mod Buffer
 pub mod Collected
 pub mod Content
 pub mod Faults
-pub mod Fields
-pub mod Head
-pub mod Lines
-pub mod Look
 pub mod Reader
-pub mod Received
-pub mod Reply
-pub mod Values
+pub mod Steps
+pub mod Found
+pub mod Laws
+pub mod Unfinished

@@ -1,27 +1,32 @@
-//! A caller that reads a reply to its end.
+//! A caller that reads a reply to its end, and follows no redirect.
 ghost use Rattle.std.specs.Prelude.{◌≡◌, [], IfOk, IfErr};
 ghost use Rattle.dm_edge.specs.Wire.{stream_of};
-ghost use Rattle.dm_reply.specs.Collected.{IsBroken};
-ghost use Rattle.dm_reply.specs.Reply.{IsWhole};
+ghost use Rattle.dm_edge.specs.Reply.{IsWhole};
+ghost use Rattle.dm_reply.specs.Collected.{CollectBreaks};
 
-use crate::{Broke, Got, ReplyReader};
+use crate::{Got, HeadFault, Kind, ReplyReader};
 use dm_edge::Wire;
+use dm_policy::Cause;
 use std::alloc::Global;
 
 /// The content in memory: what a caller learns from the clauses of `head` and `content`.
-pub fn collected<W: Wire>(alloc: Global, wire: &mut W) -> Result<Vec<u8>, Broke>
+pub fn collected<W: Wire>(alloc: Global, wire: &mut W) -> Result<Vec<u8>, HeadFault>
     ensures whole { W.tells → (W.told wire.old).given ≡ []
         → IfOk result (λ content. IsWhole (stream_of (W.told wire.new)) content.items) }
     ensures broke { W.tells → (W.told wire.old).given ≡ []
-        → IfErr result (IsBroken (stream_of (W.told wire.new))) }
+        → IfErr result (CollectBreaks (stream_of (W.told wire.new))) }
 {
     let mut reader = match ReplyReader::new(alloc) {
         Ok(reader) => reader,
-        Err(_) => return Err(Broke::NoMemory),
+        Err(_) => return Err(HeadFault::NoMemory),
     };
-    match reader.head(wire) {
-        Ok(_) => {}
-        Err(broke) => return Err(broke),
+    let head = match reader.head(alloc, wire) {
+        Ok(head) => head,
+        Err(fault) => return Err(fault),
+    };
+    match head.kind {
+        Kind::Content => {}
+        Kind::Redirect(_) => return Err(HeadFault::Broke(Cause::TooManyRedirects)),
     }
     let mut content = Vec::new(alloc);
     let mut piece = [0; 4];
@@ -29,10 +34,10 @@ pub fn collected<W: Wire>(alloc: Global, wire: &mut W) -> Result<Vec<u8>, Broke>
         match reader.content(wire, &mut piece) {
             Ok(Got::Bytes(count)) => match content.extend_from_slice(&piece[..count]) {
                 Ok(()) => {}
-                Err(_) => return Err(Broke::NoMemory),
+                Err(_) => return Err(HeadFault::NoMemory),
             },
             Ok(Got::End) => return Ok(content),
-            Err(broke) => return Err(broke),
+            Err(cause) => return Err(HeadFault::Broke(cause)),
         }
     }
 }

@@ -1,31 +1,33 @@
-ghost use Rattle.std.specs.Prelude.{◌≡◌, ◌<◌, ◌≤◌, ◌+◌, ℕ, List, [], length, take, drop, min, Some, None, IfOk, IfErr, IfSome, Result, Err};
+ghost use Rattle.std.specs.Prelude.{◌≡◌, ◌<◌, ◌≤◌, ◌+◌, ℕ, List, [], length, take, drop, false, Some, None, IfOk, IfErr, IfSome, Result, Err};
 ghost use Rattle.dm_types.specs.Faults.{HasCause, NoneFell};
 ghost use Rattle.dm_edge.specs.Wire.{stream_of};
-ghost use Rattle.dm_reply.specs.Content.{Reading, unread, HasRead, ContentSays, Advances, Fills, AfterFill};
-ghost use Rattle.dm_reply.specs.Fields.{most_content};
-ghost use Rattle.dm_reply.specs.Faults.{broke_kind};
-ghost use Rattle.dm_reply.specs.Reply.{HeadBroke};
+ghost use Rattle.dm_edge.specs.Reply.{most_content};
+ghost use Rattle.dm_reply.specs.Content.{Reading, unread, HasRead, HeadSays, HeadBreaks, IsPlainHead, ContentSays, Advances};
+ghost use Rattle.dm_reply.specs.Unfinished.{LeavesContent, LeavesHead};
+ghost use Rattle.dm_reply.specs.Steps.{settled, IsWithin, KeepsTo, most_of};
+ghost use Rattle.dm_reply.specs.Faults.{cause_kind, head_kind};
 
-use crate::receiving::{Plain, receive_head};
-use crate::{Broke, Got};
+use crate::ahead::Ahead;
+use crate::body::Body;
+use crate::chunked::give_chunked;
+use crate::found::Found;
+use crate::plain::{give_counted, give_to_end};
+use crate::receiving::receive_head;
+use crate::{Got, Head, HeadFault};
 use dm_edge::Wire;
+use dm_policy::Cause;
 use dm_types::NoMemory;
 use std::alloc::Global;
 use std::marker::Model;
-
-/// The most bytes of a head, with its empty line.
-const MOST_HEAD: usize = 65_536;
 
 /// Reads one reply: its head, once, and then its content piece by piece. Its answers are the same
 /// for every way in which the stream is cut into pieces.
 #[derive(Drop)]
 pub struct ReplyReader {
-    buffer: Vec<u8>,
-    start: usize,
-    end: usize,
+    ahead: Ahead,
+    body: Body,
     given: u64,
-    wanted: u64,
-    broke: Option<Broke>,
+    broke: Option<Cause>,
 }
 
 impl Model for ReplyReader {
@@ -46,131 +48,99 @@ impl ReplyReader {
         ensures { IfOk result (λ reader. reader ≡ unread) }
     {
         Ok(ReplyReader {
-            buffer: vec![in alloc; 0; MOST_HEAD]?,
-            start: 0,
-            end: 0,
+            ahead: Ahead::new(alloc)?,
+            body: Body::ToEnd,
             given: 0,
-            wanted: 0,
             broke: None,
         })
     }
 
-    /// Receives the head, and says how many bytes of content follow it. It is called once, on a wire
-    /// that gave nothing yet. It receives at most 65,537 times.
-    pub fn head<W: Wire>(&mut self, wire: &mut W) -> Result<u64, Broke>
+    /// Receives the head, behind at most eight interim ones. It is called once, on a wire that gave
+    /// nothing yet.
+    pub fn head<W: Wire>(&mut self, alloc: Global, wire: &mut W) -> Result<Head, HeadFault>
         requires { self.old ≡ unread }
-        ensures plain { W.tells → (W.told wire.old).given ≡ []
-            → IfOk result (λ wanted. HasRead (W.told wire.new).given self.new []) }
-        ensures limit { IfOk result (λ wanted. wanted ≤ most_content) }
-        ensures wanted { IfOk result (λ wanted. (self.new.wanted ≡ wanted) × (self.new.given ≡ 0) × (self.new.broke ≡ None)) }
+        ensures says { W.tells → (W.told wire.old).given ≡ []
+            → IfOk result (HeadSays (W.told wire.new) self.new) }
+        ensures plain { IfOk result IsPlainHead }
+        ensures fresh { IfOk result (λ head. (self.new.given ≡ 0) × (self.new.broke ≡ None)) }
         ensures broke { W.tells → (W.told wire.old).given ≡ []
-            → IfErr result (HeadBroke (stream_of (W.told wire.new))) }
-        ensures ends { IfErr result (λ broke. self.new.broke ≡ Some broke) }
+            → IfErr result (HeadBreaks (stream_of (W.told wire.new))) }
+        ensures unfinished { W.tells → (W.told wire.old).given ≡ []
+            → IfErr result (LeavesHead (W.told wire.new).given) }
         ensures sent { W.tells → (W.told wire.new).sent ≡ (W.told wire.old).sent }
         ensures stays { (W.asked wire.new ≡ W.asked wire.old) × (W.origin wire.new ≡ W.origin wire.old) }
-        ensures cause { HasCause broke_kind (W.faults wire.old) (W.faults wire.new) result }
+        ensures cause { HasCause head_kind (W.faults wire.old) (W.faults wire.new) result }
     {
-        match receive_head(wire, &mut self.buffer) {
-            Ok(Plain { start, end, wanted }) => {
-                self.start = start;
-                self.end = end;
-                self.wanted = wanted;
-                Ok(wanted)
+        match receive_head(alloc, &mut self.ahead, wire) {
+            Ok(Found { head, body }) => {
+                self.body = body;
+                Ok(head)
             }
-            Err(broke) => {
-                self.broke = Some(broke);
-                Err(broke)
-            }
+            Err(fault) => Err(fault),
         }
     }
 
     /// Puts the next bytes of the content at the front of the buffer, and says how many, or that the
-    /// content was given whole. It receives at most what the content still lacks. After a fault it
-    /// answers the same fault from then on.
-    pub fn content<W: Wire>(&mut self, wire: &mut W, buf: &mut [u8]) -> Result<Got, Broke>
+    /// content was given whole. After a cause it answers the same cause from then on. It takes no
+    /// memory; `Memory` is answered only where the wire had none.
+    pub fn content<W: Wire>(&mut self, wire: &mut W, buf: &mut [u8]) -> Result<Got, Cause>
         requires { 0 < length buf.old }
         ensures says { W.tells → (content : List ℕ) → HasRead (W.told wire.old).given self.old content
             → ContentSays (W.told wire.new) self.new result buf.new content }
+        ensures unfinished { W.tells → (content : List ℕ) → HasRead (W.told wire.old).given self.old content
+            → LeavesContent (W.told wire.new).given content result }
         ensures advances { Advances self.old self.new result (length buf.old) }
-        ensures ends { IfErr result (λ broke. self.new.broke ≡ Some broke) }
-        ensures repeats { IfSome self.old.broke (λ broke. (result ≡ Err broke) × (self.new ≡ self.old) × (W.told wire.new ≡ W.told wire.old)) }
+        ensures ends { IfErr result (λ cause. self.new.broke ≡ Some cause) }
+        ensures repeats { IfSome self.old.broke (λ cause. (result ≡ Err cause) × (self.new ≡ self.old) × (W.told wire.new ≡ W.told wire.old)) }
         ensures sent { W.tells → (W.told wire.new).sent ≡ (W.told wire.old).sent }
         ensures stays { (W.asked wire.new ≡ W.asked wire.old) × (W.origin wire.new ≡ W.origin wire.old) }
         ensures later { NoneFell (W.faults wire.old) (W.faults wire.new) }
-        ensures cause { self.old.broke ≡ None → HasCause broke_kind (W.faults wire.old) (W.faults wire.new) result }
+        ensures cause { self.old.broke ≡ None → HasCause cause_kind (W.faults wire.old) (W.faults wire.new) result }
     {
-        if let Some(broke) = self.broke {
-            return Err(broke);
+        if let Some(cause) = self.broke {
+            return Err(cause);
         }
-        if self.given == self.wanted {
-            return Ok(Got::End);
-        }
-        if self.start < self.end {
-            return Ok(Got::Bytes(self.give(buf)));
-        }
-        self.fill(wire, buf)
+        let result = self.next(wire, buf);
+        self.settle(result)
     }
 
-    /// Copies content that came with the head.
-    fn give(&mut self, buf: &mut [u8]) -> usize
+    /// The next of the content, by its framing.
+    fn next<W: Wire>(&mut self, wire: &mut W, buf: &mut [u8]) -> Result<Got, Cause>
         requires room { 0 < length buf.old }
-        requires some { 0 < length self.old.ahead }
-        requires lacks { self.old.given < self.old.wanted }
-        ensures bounds { (0 < result) × (result ≤ length buf.old) × (self.old.given + result ≤ self.old.wanted) }
-        ensures copied { take result buf.new ≡ take result self.old.ahead }
-        ensures after { self.new ≡ record self.old { ahead = drop result self.old.ahead; given = self.old.given + result } }
-    {
-        let ahead = &self.buffer[self.start..self.end];
-        let count = least(self.wanted - self.given, buf.len().min(ahead.len()));
-        buf[..count].copy_from_slice(&ahead[..count]);
-        self.start += count;
-        self.given += count as u64;
-        count
-    }
-
-    /// Receives content straight into the caller's buffer.
-    fn fill<W: Wire>(&mut self, wire: &mut W, buf: &mut [u8]) -> Result<Got, Broke>
-        requires room { 0 < length buf.old }
-        requires none { self.old.ahead ≡ [] }
-        requires lacks { self.old.given < self.old.wanted }
         requires unbroken { self.old.broke ≡ None }
-        ensures told { W.tells → Fills (W.told wire.old) (W.told wire.new) self.old result buf.new }
-        ensures after { AfterFill self.old self.new result (length buf.old) }
+        ensures keeps { KeepsTo (most_of self.old.body) self.old.given (length buf.old) result }
+        ensures limit { most_of self.old.body ≤ most_content }
+        ensures same { (self.new.given ≡ self.old.given) × (self.new.broke ≡ None) × (most_of self.new.body ≡ most_of self.old.body) }
+        ensures says { W.tells → (content : List ℕ) → HasRead (W.told wire.old).given self.old content
+            → ContentSays (W.told wire.new) (settled self.new result) result buf.new content }
+        ensures unfinished { W.tells → (content : List ℕ) → HasRead (W.told wire.old).given self.old content
+            → LeavesContent (W.told wire.new).given content result }
         ensures sent { W.tells → (W.told wire.new).sent ≡ (W.told wire.old).sent }
         ensures stays { (W.asked wire.new ≡ W.asked wire.old) × (W.origin wire.new ≡ W.origin wire.old) }
-        ensures cause { HasCause broke_kind (W.faults wire.old) (W.faults wire.new) result }
+        ensures cause { HasCause cause_kind (W.faults wire.old) (W.faults wire.new) result }
     {
-        let room = least(self.wanted - self.given, buf.len());
-        let short = Broke::Short {
-            have: self.given,
-            wanted: self.wanted,
-        };
-        match wire.receive(&mut buf[..room]) {
-            Ok(0) => Err(self.breaks(short)),
-            Ok(count) => {
-                self.given += count as u64;
-                Ok(Got::Bytes(count))
+        match self.body {
+            Body::Counted(wanted) => give_counted(&mut self.ahead, wanted, self.given, wire, buf),
+            Body::ToEnd => give_to_end(&mut self.ahead, self.given, wire, buf),
+            Body::Chunked(mut chunks) => {
+                let result = give_chunked(&mut self.ahead, &mut chunks, self.given, wire, buf);
+                self.body = Body::Chunked(chunks);
+                result
             }
-            Err(fault) => Err(self.breaks(Broke::from(fault))),
         }
     }
 
-    fn breaks(&mut self, broke: Broke) -> Broke
-        ensures same { result ≡ broke }
-        ensures after { self.new ≡ record self.old { broke = Some broke } }
+    /// Counts what is given, and keeps a cause.
+    fn settle(&mut self, answer: Result<Got, Cause>) -> Result<Got, Cause>
+        requires { IsWithin (most_of self.old.body) self.old.given answer }
+        ensures same { result ≡ answer }
+        ensures after { self.new ≡ settled self.old answer }
     {
-        self.broke = Some(broke);
-        broke
-    }
-}
-
-/// The smaller of the two.
-fn least(lacking: u64, room: usize) -> usize
-    ensures { result ≡ min lacking room }
-{
-    if lacking < room as u64 {
-        lacking as usize
-    } else {
-        room
+        match answer {
+            Ok(Got::Bytes(count)) => self.given += count as u64,
+            Ok(Got::End) => {}
+            Err(cause) => self.broke = Some(cause),
+        }
+        answer
     }
 }

@@ -1,53 +1,100 @@
 //! Receives the head.
-ghost use Rattle.std.specs.Prelude.{◌≡◌, ◌≤◌, ℕ, [], length, take, IfOk, IfErr};
+ghost use Rattle.std.specs.Prelude.{◌≡◌, ◌<◌, ◌≤◌, [], length, IfOk, IfErr};
 ghost use Rattle.dm_types.specs.Faults.{HasCause};
 ghost use Rattle.dm_edge.specs.Wire.{stream_of};
-ghost use Rattle.dm_reply.specs.Faults.{broke_kind};
-ghost use Rattle.dm_reply.specs.Fields.{most_content};
-ghost use Rattle.dm_reply.specs.Head.{most_head};
-ghost use Rattle.dm_reply.specs.Received.{FindsHead};
-ghost use Rattle.dm_reply.specs.Reply.{HeadBroke};
+ghost use Rattle.dm_edge.specs.Head.{most_head};
+ghost use Rattle.dm_edge.specs.Reply.{most_content};
+ghost use Rattle.dm_head.specs.Look.{IsOpen};
+ghost use Rattle.dm_reply.specs.Content.{HeadSays, HeadBreaks, IsPlainHead};
+ghost use Rattle.dm_reply.specs.Faults.{head_kind};
+ghost use Rattle.dm_reply.specs.Found.{MoreSays};
+ghost use Rattle.dm_reply.specs.Unfinished.{LeavesHead};
+ghost use Rattle.dm_reply.specs.Steps.{going, most_of, head_fault_of};
 
-use crate::Broke;
-use crate::look::{Look, look_at};
-use dm_edge::Wire;
+use crate::HeadFault;
+use crate::ahead::{Ahead, MOST_HEAD};
+use crate::found::{Found, content_head, redirect_head};
+use dm_edge::{Wire, WireFault};
+use dm_head::{Look, look_at};
+use dm_policy::Cause;
+use std::alloc::Global;
 
-/// A plain head that came whole: the content begins at `start`, has `wanted` bytes, and the buffer
-/// was filled up to `end`.
-#[derive(Clone, Copy)]
-pub struct Plain {
-    pub start: usize,
-    pub end: usize,
-    pub wanted: u64,
-}
+/// The most interim heads that are passed over.
+const MOST_INTERIM: u32 = 8;
 
-/// Receives into the buffer until a head is there whole. Each turn but the last takes at least one
-/// byte, so there are at most as many as the buffer has bytes, and one more.
-pub fn receive_head<W: Wire>(wire: &mut W, buffer: &mut [u8]) -> Result<Plain, Broke>
-    requires { length buffer.old ≡ most_head }
-    ensures bounds { IfOk result (λ head. (head.start ≤ head.end) × (head.end ≤ most_head) × (head.wanted ≤ most_content)) }
-    ensures found { W.tells → (W.told wire.old).given ≡ []
-        → IfOk result (λ head. FindsHead (W.told wire.new).given buffer.new head) }
-    ensures broke { W.tells → (W.told wire.old).given ≡ []
-        → IfErr result (HeadBroke (stream_of (W.told wire.new))) }
+/// Receives until a head is there whole that isn't interim. Each turn but the last takes at least one byte of a head, of
+/// at most 65,536, or passes one over.
+pub fn receive_head<W: Wire>(
+    alloc: Global,
+    ahead: &mut Ahead,
+    wire: &mut W,
+) -> Result<Found, HeadFault>
+    requires { ahead.old ≡ [] }
+    ensures says { W.tells → (W.told wire.old).given ≡ []
+        → IfOk result (λ found. HeadSays (W.told wire.new) (going ahead.new found.body 0) found.head) }
+    ensures plain { IfOk result (λ found. IsPlainHead found.head) }
+    ensures limit { IfOk result (λ found. most_of found.body ≤ most_content) }
+    ensures broke { W.tells → (W.told wire.old).given ≡ [] → IfErr result (HeadBreaks (stream_of (W.told wire.new))) }
+    ensures unfinished { W.tells → (W.told wire.old).given ≡ [] → IfErr result (LeavesHead (W.told wire.new).given) }
     ensures sent { W.tells → (W.told wire.new).sent ≡ (W.told wire.old).sent }
     ensures stays { (W.asked wire.new ≡ W.asked wire.old) × (W.origin wire.new ≡ W.origin wire.old) }
-    ensures cause { HasCause broke_kind (W.faults wire.old) (W.faults wire.new) result }
+    ensures cause { HasCause head_kind (W.faults wire.old) (W.faults wire.new) result }
 {
-    let mut end = 0;
+    let mut passed = 0;
     loop {
-        match look_at(&buffer[..end]) {
-            Look::Plain { start, wanted } => return Ok(Plain { start, end, wanted }),
-            Look::Refused(broke) => return Err(broke),
-            Look::Open => {}
+        match look_at(ahead.bytes()) {
+            Look::Interim { size, status } => {
+                if passed == MOST_INTERIM {
+                    return Err(HeadFault::Broke(Cause::Status(status)));
+                }
+                ahead.pass(size);
+                passed += 1;
+            }
+            Look::Content {
+                start,
+                framing,
+                modified,
+            } => return content_head(alloc, ahead, start, framing, modified),
+            Look::Redirect {
+                status,
+                location,
+                modified,
+            } => return redirect_head(alloc, ahead, status, location, modified),
+            Look::Refused(cause) => return Err(HeadFault::Broke(cause)),
+            Look::Open => match receive_more(ahead, wire) {
+                Ok(()) => {}
+                Err(fault) => return Err(fault),
+            },
         }
-        if end == buffer.len() {
-            return Err(Broke::BadForm);
-        }
-        match wire.receive(&mut buffer[end..]) {
-            Ok(0) => return Err(Broke::HeadCut),
-            Ok(received) => end += received,
-            Err(fault) => return Err(Broke::from(fault)),
-        }
+    }
+}
+
+/// Receives behind an open head, where one may still have more bytes.
+fn receive_more<W: Wire>(ahead: &mut Ahead, wire: &mut W) -> Result<(), HeadFault>
+    requires { IsOpen ahead.old }
+    ensures grows { IfOk result (λ _. (length ahead.old < length ahead.new) × (length ahead.new ≤ most_head)) }
+    ensures says { W.tells → MoreSays (W.told wire.old) (W.told wire.new) ahead.old ahead.new result }
+    ensures sent { W.tells → (W.told wire.new).sent ≡ (W.told wire.old).sent }
+    ensures stays { (W.asked wire.new ≡ W.asked wire.old) × (W.origin wire.new ≡ W.origin wire.old) }
+    ensures cause { HasCause head_kind (W.faults wire.old) (W.faults wire.new) result }
+{
+    if ahead.bytes().len() == MOST_HEAD {
+        return Err(HeadFault::Broke(Cause::BadHead));
+    }
+    match ahead.receive(wire) {
+        Ok(0) => Err(HeadFault::Broke(Cause::HeadCut)),
+        Ok(_) => Ok(()),
+        Err(fault) => Err(head_fault_of(fault)),
+    }
+}
+
+/// What a fault of the wire is while the head is read.
+fn head_fault_of(fault: WireFault) -> HeadFault
+    ensures { result ≡ head_fault_of fault }
+{
+    match fault {
+        WireFault::Failed => HeadFault::Broke(Cause::NetFailed),
+        WireFault::Timeout => HeadFault::Broke(Cause::NetTimeout),
+        WireFault::NoMemory => HeadFault::NoMemory,
     }
 }

@@ -1,18 +1,25 @@
-use crate::Broke;
+ghost use Rattle.dm_edge.specs.Counts.{wire_count};
+
 use crate::collecting::collected;
-use dm_edge::{EveryByte, Wire, WireFault};
+use crate::{HeadFault, Kind, ReplyReader};
+use dm_edge::{EveryByte, Wire, WireCounts, WireFault};
+use dm_policy::Cause;
 use std::alloc::Global;
 use std::test::Fail;
 
-/// A wire that gives its bytes in pieces of a size at most.
+/// A wire that gives its bytes in pieces of a size at most, and then ends, or fails.
 #[derive(Drop)]
 struct Pieces<'a> {
     left: &'a [u8],
     size: usize,
+    last: Option<WireFault>,
+    counts: WireCounts,
 }
 
 impl Wire for Pieces<'_> {
     ghost use Rattle.std.specs.Prelude.{[]};
+    ghost use Rattle.std.proofs.Common.{inl};
+    ghost use Rattle.dm_edge.specs.Counts.{wire_count};
 
     type O = EveryByte;
 
@@ -24,7 +31,9 @@ impl Wire for Pieces<'_> {
 
     ghost told = { λ _. record { given = []; left = []; sent = [] } };
 
-    ghost faults = { λ _ _. 0 };
+    ghost faults = { λ w. wire_count w.counts };
+
+    ghost honest = { λ _. inl (λ _ _ _ _. tt) };
 
     fn send(&mut self, _piece: &[u8]) -> Result<(), WireFault> {
         Ok(())
@@ -32,6 +41,10 @@ impl Wire for Pieces<'_> {
 
     fn receive(&mut self, buf: &mut [u8]) -> Result<usize, WireFault> {
         let count = self.size.min(buf.len()).min(self.left.len());
+        if let (0, Some(fault)) = (count, self.last) {
+            self.counts.raise(fault);
+            return Err(fault);
+        }
         let (piece, left) = self.left.split_at(count);
         buf[..count].copy_from_slice(piece);
         self.left = left;
@@ -39,193 +52,310 @@ impl Wire for Pieces<'_> {
     }
 }
 
-/// A stream, how long its head is, and how much content that names.
-#[derive(Clone, Copy)]
-struct Row {
-    stream: &'static [u8],
-    head: usize,
-    wanted: usize,
+fn wire_of(left: &[u8], size: usize, last: Option<WireFault>) -> Pieces<'_> {
+    Pieces {
+        left,
+        size,
+        last,
+        counts: WireCounts::NONE,
+    }
 }
 
-const ELEVEN: &[u8] = b"HTTP/1.1 200 OK\r\nContent-Length: 11\r\n\r\nhello world";
+/// The whole content is this.
+fn gives(alloc: Global, stream: &[u8], size: usize, content: &[u8]) -> bool {
+    match collected(alloc, &mut wire_of(stream, size, None)) {
+        Ok(found) => found.as_slice() == content,
+        Err(_) => false,
+    }
+}
 
-const NONE: &[u8] = b"HTTP/1.1 200 OK\r\nContent-Length: 0\r\n\r\n";
+/// The cause that ends the reading is this.
+fn breaks(alloc: Global, stream: &[u8], size: usize, cause: Cause) -> bool {
+    match collected(alloc, &mut wire_of(stream, size, None)) {
+        Ok(_) => false,
+        Err(fault) => fault == HeadFault::Broke(cause),
+    }
+}
 
-const MORE: &[u8] = b"HTTP/1.0 200\nA: b\ncontent-length:\t5 \n\nhelloHTTP/1.1";
+/// At every cut the content is short by what it lacks, in pieces of one to four bytes and in one.
+fn is_short(alloc: Global, stream: &[u8], cause: Cause) -> bool {
+    for size in 1..=4 {
+        if !breaks(alloc, stream, size, cause) {
+            return false;
+        }
+    }
+    breaks(alloc, stream, 65_536, cause)
+}
 
-/// The answer over the stream's first bytes, in pieces of one size, is the same as the table's.
-fn is_as_told(alloc: Global, row: &Row, cut: usize, size: usize) -> bool {
-    if cut > row.stream.len() {
+fn is_whole(alloc: Global, stream: &[u8], content: &[u8]) -> bool {
+    for size in 1..=4 {
+        if !gives(alloc, stream, size, content) {
+            return false;
+        }
+    }
+    gives(alloc, stream, 65_536, content)
+}
+
+const COUNTED: &[u8] = b"HTTP/1.1 200 OK\r\nETag: \"a\"\r\nContent-Length: 11\r\n\r\nhello world";
+
+/// Where the content of `COUNTED` begins.
+const COUNTED_HEAD: usize = 50;
+
+fn counted_cut(alloc: Global, cut: usize) -> bool {
+    if cut > COUNTED.len() {
         return false;
     }
-    let mut wire = Pieces {
-        left: &row.stream[..cut],
-        size,
-    };
-    let result = collected(alloc, &mut wire);
-    match result {
-        Ok(content) => {
-            let end = row.head.saturating_add(row.wanted);
-            end <= cut && row.head <= end && content.as_slice() == &row.stream[row.head..end]
+    let stream = &COUNTED[..cut];
+    if cut < COUNTED_HEAD {
+        return is_short(alloc, stream, Cause::HeadCut);
+    }
+    if cut == COUNTED.len() {
+        return is_whole(alloc, stream, b"hello world");
+    }
+    let have = (cut - COUNTED_HEAD) as u64;
+    is_short(
+        alloc,
+        stream,
+        Cause::ContentShort {
+            have,
+            wanted: Some(11),
+        },
+    )
+}
+
+#[test]
+fn counted_content_at_every_cut(rt: HostRuntime) {
+    for cut in 0..=COUNTED.len() {
+        assert!(rt; counted_cut(rt.alloc(), cut), "cut {cut}");
+    }
+}
+
+const CHUNKED: &[u8] =
+    b"HTTP/1.1 200 OK\r\nTransfer-Encoding: chunked\r\n\r\n5\r\nhello\r\n6\r\n world\r\n0\r\n\r\n";
+
+/// Where the chunks of `CHUNKED` begin.
+const CHUNKED_HEAD: usize = 47;
+
+fn chunked_cut(alloc: Global, cut: usize) -> bool {
+    if cut > CHUNKED.len() {
+        return false;
+    }
+    let stream = &CHUNKED[..cut];
+    if cut < CHUNKED_HEAD {
+        return is_short(alloc, stream, Cause::HeadCut);
+    }
+    if cut == CHUNKED.len() {
+        return is_whole(alloc, stream, b"hello world");
+    }
+    // The data stands at 3 to 7 and at 13 to 18 behind the head.
+    let behind = (cut - CHUNKED_HEAD) as u64;
+    let have = behind.saturating_sub(3).min(5) + behind.saturating_sub(13).min(6);
+    is_short(alloc, stream, Cause::ContentShort { have, wanted: None })
+}
+
+#[test]
+fn chunked_content_at_every_cut(rt: HostRuntime) {
+    for cut in 0..=CHUNKED.len() {
+        assert!(rt; chunked_cut(rt.alloc(), cut), "cut {cut}");
+    }
+}
+
+const TO_END: &[u8] = b"HTTP/1.1 200 OK\r\nServer: a\r\n\r\nhello";
+
+/// Where the content of `TO_END` begins.
+const TO_END_HEAD: usize = 30;
+
+fn to_end_cut(alloc: Global, cut: usize) -> bool {
+    if cut > TO_END.len() {
+        return false;
+    }
+    let stream = &TO_END[..cut];
+    if cut < TO_END_HEAD {
+        return is_short(alloc, stream, Cause::HeadCut);
+    }
+    is_whole(alloc, stream, &TO_END[TO_END_HEAD..cut])
+}
+
+#[test]
+fn content_to_the_end_at_every_cut(rt: HostRuntime) {
+    for cut in 0..=TO_END.len() {
+        assert!(rt; to_end_cut(rt.alloc(), cut), "cut {cut}");
+    }
+}
+
+/// Replies without content, and why.
+const REFUSED: [(&[u8], Cause); 9] = [
+    (
+        b"HTTP/1.1 503 Service Unavailable\r\nContent-Length: 0\r\n\r\n",
+        Cause::Status(503),
+    ),
+    (b"HTTP/1.1 401 Unauthorized\r\n\r\n", Cause::Status(401)),
+    (b"HTTP/1.1 206 Partial Content\r\n\r\n", Cause::Status(206)),
+    (
+        b"HTTP/1.1 200 OK\r\nContent-Encoding: gzip\r\n\r\n",
+        Cause::Encoded,
+    ),
+    (
+        b"HTTP/1.1 200 OK\r\nTransfer-Encoding: gzip, chunked\r\n\r\n",
+        Cause::BadFraming,
+    ),
+    (
+        b"HTTP/1.1 200 OK\r\nContent-Length: 1099511627777\r\n\r\n",
+        Cause::TooLarge(1_099_511_627_777),
+    ),
+    (
+        b"HTTP/1.1 200 OK\r\nTransfer-Encoding: chunked\r\n\r\n5\r\nhello!\n",
+        Cause::BadFraming,
+    ),
+    (
+        b"HTTP/1.1 302 Found\r\nLocation: /b\r\n\r\n",
+        Cause::TooManyRedirects,
+    ),
+    (b"SSH-2.0-OpenSSH_9.6\r\n", Cause::BadHead),
+];
+
+#[test]
+fn other_replies_are_refused(rt: HostRuntime) {
+    for (stream, cause) in REFUSED {
+        assert!(rt; is_short(rt.alloc(), stream, cause), "{cause:?}");
+    }
+}
+
+#[test]
+fn no_content_at_all(rt: HostRuntime) {
+    assert!(rt;
+        is_whole(
+            rt.alloc(),
+            b"HTTP/1.1 200 OK\r\nContent-Length: 0\r\n\r\nmore",
+            b""
+        )
+    );
+}
+
+/// A reply behind so many interim heads, each with a field of so many bytes.
+fn behind_interim(alloc: Global, count: usize, field: usize) -> Result<Vec<u8>, Fail> {
+    let mut stream = Vec::new(alloc);
+    for _ in 0..count {
+        stream.extend_from_slice(b"HTTP/1.1 103 Early Hints\r\nLink: ")?;
+        for _ in 0..field {
+            stream.push(b'a')?;
         }
-        Err(Broke::HeadCut) => cut < row.head,
-        Err(Broke::Short { have, wanted }) => {
-            row.head <= cut
-                && have == (cut - row.head) as u64
-                && wanted == row.wanted as u64
-                && have < wanted
+        stream.extend_from_slice(b"\r\n\r\n")?;
+    }
+    stream.extend_from_slice(COUNTED)?;
+    Ok(stream)
+}
+
+#[test]
+fn eight_interim_heads_pass(rt: HostRuntime) -> Result<(), Fail> {
+    let stream = behind_interim(rt.alloc(), 8, 3)?;
+    assert!(rt; gives(rt.alloc(), &stream, 7, b"hello world"));
+    Ok(())
+}
+
+#[test]
+fn a_ninth_interim_head_is_a_status(rt: HostRuntime) -> Result<(), Fail> {
+    let stream = behind_interim(rt.alloc(), 9, 3)?;
+    assert!(rt; breaks(rt.alloc(), &stream, 7, Cause::Status(103)));
+    Ok(())
+}
+
+/// Each head has its own 65,536 bytes.
+#[test]
+fn a_long_interim_head_takes_no_room(rt: HostRuntime) -> Result<(), Fail> {
+    let stream = behind_interim(rt.alloc(), 2, 65_000)?;
+    assert!(rt; gives(rt.alloc(), &stream, 65_536, b"hello world"));
+    Ok(())
+}
+
+/// A head of so many bytes, with its empty line, and two bytes of content.
+fn of_length(alloc: Global, length: usize) -> Result<Vec<u8>, Fail> {
+    let mut stream = Vec::new(alloc);
+    stream.extend_from_slice(b"HTTP/1.1 200 OK\r\nContent-Length: 2\r\nA: ")?;
+    for _ in stream.len()..length.saturating_sub(4) {
+        stream.push(b'b')?;
+    }
+    stream.extend_from_slice(b"\r\n\r\nok")?;
+    Ok(stream)
+}
+
+#[test]
+fn a_head_has_65536_bytes(rt: HostRuntime) -> Result<(), Fail> {
+    let most = of_length(rt.alloc(), 65_536)?;
+    assert!(rt; gives(rt.alloc(), &most, 10_000, b"ok"));
+    let more = of_length(rt.alloc(), 65_537)?;
+    assert!(rt; breaks(rt.alloc(), &more, 10_000, Cause::BadHead));
+    Ok(())
+}
+
+/// The answer where the wire fails behind these bytes.
+fn failing(alloc: Global, stream: &[u8], fault: WireFault) -> Option<HeadFault> {
+    collected(alloc, &mut wire_of(stream, 3, Some(fault))).err()
+}
+
+#[test]
+fn a_fault_in_the_content_is_its_cause(rt: HostRuntime) {
+    let found = failing(rt.alloc(), &COUNTED[..56], WireFault::Timeout);
+    assert_eq!(rt; found, Some(HeadFault::Broke(Cause::NetTimeout)));
+}
+
+#[test]
+fn a_fault_in_the_head_is_its_cause(rt: HostRuntime) {
+    let found = failing(rt.alloc(), &COUNTED[..20], WireFault::Failed);
+    assert_eq!(rt; found, Some(HeadFault::Broke(Cause::NetFailed)));
+}
+
+#[test]
+fn want_of_memory_is_no_cause_of_a_head(rt: HostRuntime) {
+    let found = failing(rt.alloc(), &COUNTED[..20], WireFault::NoMemory);
+    assert_eq!(rt; found, Some(HeadFault::NoMemory));
+}
+
+/// Whether a cause is answered again.
+fn repeats(alloc: Global, stream: &[u8], cause: Cause) -> bool {
+    let mut wire = wire_of(stream, 100, Some(WireFault::Failed));
+    let mut reader = match ReplyReader::new(alloc) {
+        Ok(reader) => reader,
+        Err(_) => return false,
+    };
+    if reader.head(alloc, &mut wire).is_err() {
+        return false;
+    }
+    let mut piece = [0; 100];
+    let first = reader.content(&mut wire, &mut piece);
+    let second = reader.content(&mut wire, &mut piece);
+    let third = reader.content(&mut wire, &mut piece);
+    first.is_ok() && second == Err(cause) && third == Err(cause)
+}
+
+#[test]
+fn a_cause_is_answered_again(rt: HostRuntime) {
+    assert!(rt; repeats(rt.alloc(), &COUNTED[..56], Cause::NetFailed));
+}
+
+const MOVED: &[u8] =
+    b"HTTP/1.1 301 Moved Permanently\r\nLocation:  /a b \r\nLast-Modified: then\r\n\r\n";
+
+/// Whether the head is a redirect to this address, as it stands, with this date.
+fn leads(alloc: Global, stream: &[u8], location: &[u8], modified: &[u8]) -> bool {
+    let mut wire = wire_of(stream, 5, None);
+    let mut reader = match ReplyReader::new(alloc) {
+        Ok(reader) => reader,
+        Err(_) => return false,
+    };
+    match reader.head(alloc, &mut wire) {
+        Ok(head) => {
+            let led = match &head.kind {
+                Kind::Redirect(found) => found.is(location),
+                Kind::Content => false,
+            };
+            led && head.modified.is(modified)
         }
         Err(_) => false,
     }
 }
 
 #[test]
-fn every_cutting_of_a_reply(rt: HostRuntime) {
-    let rows = [
-        Row {
-            stream: ELEVEN,
-            head: 39,
-            wanted: 11,
-        },
-        Row {
-            stream: NONE,
-            head: 38,
-            wanted: 0,
-        },
-        Row {
-            stream: MORE,
-            head: 38,
-            wanted: 5,
-        },
-    ];
-    for row in rows.iter() {
-        for cut in 0..=row.stream.len() {
-            for size in 1..=4 {
-                assert!(rt;
-                    is_as_told(rt.alloc(), row, cut, size),
-                    "cut {cut}, pieces of {size}"
-                );
-            }
-            assert!(rt; is_as_told(rt.alloc(), row, cut, 65_536), "cut {cut}");
-        }
-    }
-}
-
-/// What is no plain reply, and the answer to it.
-const REFUSED: [(&[u8], Broke); 14] = [
-    (
-        b"HTTP/1.1 404 Not Found\r\nContent-Length: 0\r\n\r\n",
-        Broke::Status(404),
-    ),
-    (
-        b"HTTP/1.1 100 Continue\r\n\r\nHTTP/1.1 200 OK\r\n",
-        Broke::Status(100),
-    ),
-    (b"HTTP/1.1 206 Partial Content\r\n\r\n", Broke::Status(206)),
-    (b"HTTP/1.1 200 OK\r\n\r\nhello", Broke::BadForm),
-    (
-        b"HTTP/1.1 200 OK\r\nContent-Length: 5\r\nContent-Length: 5\r\n\r\nhello",
-        Broke::BadForm,
-    ),
-    (
-        b"HTTP/1.1 200 OK\r\nContent-Length: 5, 5\r\n\r\nhello",
-        Broke::BadForm,
-    ),
-    (
-        b"HTTP/1.1 200 OK\r\nContent-Length: +5\r\n\r\nhello",
-        Broke::BadForm,
-    ),
-    (
-        b"HTTP/1.1 200 OK\r\nContent-Length: \r\n\r\nhello",
-        Broke::BadForm,
-    ),
-    (
-        b"HTTP/1.1 200 OK\r\nContent-Length: 1099511627777\r\n\r\n",
-        Broke::BadForm,
-    ),
-    (
-        b"HTTP/1.1 200 OK\r\nContent-Length: 00000000000000000005\r\n\r\nhello",
-        Broke::BadForm,
-    ),
-    (
-        b"HTTP/1.1 200 OK\r\nContent-Length: 5\r\nTRANSFER-ENCODING: chunked\r\n\r\n5",
-        Broke::BadForm,
-    ),
-    (
-        b"HTTP/1.1 200 OK\r\nContent-Length: 5\r\nContent-Encoding: gzip\r\n\r\nhello",
-        Broke::BadForm,
-    ),
-    (
-        b"HTTP/1.1 200 OK\r\nContent-Length: 1099511627776\r\n\r\n",
-        Broke::Short {
-            have: 0,
-            wanted: 1_099_511_627_776,
-        },
-    ),
-    (b"SSH-2.0-OpenSSH_9.6\r\n", Broke::BadForm),
-];
-
-#[test]
-fn other_replies_are_refused(rt: HostRuntime) {
-    for (stream, broke) in REFUSED {
-        for size in 1..=3 {
-            let mut wire = Pieces { left: stream, size };
-            assert_eq!(rt; collected(rt.alloc(), &mut wire).err(), Some(broke));
-        }
-    }
-}
-
-#[test]
-fn heads_have_limits(rt: HostRuntime) -> Result<(), Fail> {
-    for fields in 98..=101 {
-        let mut stream = Vec::new(rt.alloc());
-        stream.extend_from_slice(b"HTTP/1.1 200 OK\r\nContent-Length: 2\r\n")?;
-        for _ in 1..fields {
-            stream.extend_from_slice(b"A: b\r\n")?;
-        }
-        let mut wire = Pieces {
-            left: stream.as_slice(),
-            size: 1000,
-        };
-        let cut = if fields <= 100 {
-            Broke::HeadCut
-        } else {
-            Broke::BadForm
-        };
-        assert_eq!(rt;
-            collected(rt.alloc(), &mut wire).err(),
-            Some(cut),
-            "{fields} fields"
-        );
-        stream.extend_from_slice(b"\r\nok")?;
-        let mut wire = Pieces {
-            left: stream.as_slice(),
-            size: 1000,
-        };
-        let whole = fields <= 100;
-        assert_eq!(rt;
-            collected(rt.alloc(), &mut wire).is_ok(),
-            whole,
-            "{fields} fields"
-        );
-    }
-    for length in 65_535..=65_537 {
-        let mut stream = Vec::new(rt.alloc());
-        stream.extend_from_slice(b"HTTP/1.1 200 OK\r\nContent-Length: 2\r\nA: ")?;
-        for _ in stream.len()..length - 4 {
-            stream.push(b'b')?;
-        }
-        stream.extend_from_slice(b"\r\n\r\nok")?;
-        let mut wire = Pieces {
-            left: stream.as_slice(),
-            size: 10_000,
-        };
-        let whole = length <= 65_536;
-        assert_eq!(rt;
-            collected(rt.alloc(), &mut wire).is_ok(),
-            whole,
-            "{length} bytes"
-        );
-    }
-    Ok(())
+fn a_redirect_leads_to_its_location(rt: HostRuntime) {
+    assert!(rt; leads(rt.alloc(), MOVED, b"/a b", b"then"));
 }

@@ -1,66 +1,51 @@
--- The addresses that are taken: http://HOST[:PORT]PATH in at most 4,096 bytes.
-use Rattle.std.specs.Prelude.{◌≡◌, ℕ, ◌≤◌, Bool, not, ◌||◌, ◌&&◌, ◌==◌, ◌⊎◌, if◌then◌else◌, List, [], ◌∷◌, ◌++◌, length, drop, slice_index, codes, IsTrue, nat_lt}
-use Rattle.std.specs.List.{list_all, slice_split, after_last, position_or_len}
-use Rattle.std.specs.Char.{is_ascii_alphanumeric, is_ascii_lowercase, is_ascii_digit}
+-- What an address is made of: a URL record of the URL Standard, section 4.1, without its fragment. The record, its
+-- parser and its text are those of the crate `url`.
+use Rattle.std.specs.Prelude.{ℕ, ◌<◌, All, List, [], ◌∷◌, ◌++◌, ◌==◌, ◌&&◌, not, if◌then◌else◌, Bool, codes, Option, Some, None, unwrap_or}
 use Rattle.std.specs.Str.{bytes_eq}
 use Rattle.std.specs.Fmt.{decimal}
+use Rattle.url.specs.Host.{host_text}
+use Rattle.url.specs.Parts.{Parts, serialize, host_or_empty, has_credentials}
+use Rattle.dm_types.specs.declared.address.Address.{Address}
 
-abbrev pub is_dot : ℕ → Bool
-is_dot b = b == 46
+-- the URL without its fragment
+abbrev pub without_fragment : Parts → Parts
+without_fragment url = record url { fragment = None }
 
-abbrev pub is_slash : ℕ → Bool
-is_slash b = b == 47
+-- the text of that URL
+abbrev pub text_of : Parts → List ℕ
+text_of url = serialize (without_fragment url)
 
-abbrev pub is_colon : ℕ → Bool
-is_colon b = b == 58
+-- a query after its mark, where there is one
+abbrev pub query_part : Option (List ℕ) → List ℕ
+query_part None = []
+query_part (Some query) = codes "?" ++ query
 
--- the bytes from the first on that passes, or nothing where none does
-abbrev pub from_first : (ℕ → Bool) → List ℕ → List ℕ
-from_first p bytes = drop (position_or_len p bytes) bytes
+-- what a request line asks for: the path, and the query
+abbrev pub target_of : Parts → List ℕ
+target_of url = url.path ++ query_part url.query
 
--- a lower-case letter, a digit or a dot
-abbrev pub is_host_byte : ℕ → Bool
-is_host_byte b = is_ascii_lowercase b || is_ascii_digit b || is_dot b
+-- The address of a URL. An IPv6 host has its brackets, and the port is 80 where the URL has none.
+abbrev pub address_of : Parts → Address
+address_of url = record {
+  text = text_of url;
+  host = host_text (host_or_empty url);
+  port = unwrap_or url.port 80;
+  target = target_of url;
+}
 
-abbrev pub is_filled : List ℕ → Bool
-is_filled label = nat_lt 0 (length label)
+-- the scheme is `http`, and there is neither a user name nor a password, where an empty one is none
+abbrev pub is_http : Parts → Bool
+is_http url = bytes_eq url.scheme (codes "http") && not (has_credentials url)
 
--- Labels of lower-case letters and digits, joined by single dots. The last begins with a letter.
-pub record IsHostName (host : List ℕ) : Type 0 where
-  pub each : IsTrue (list_all is_host_byte host)
-  pub labels : IsTrue (list_all is_filled (slice_split is_dot host))
-  pub last : IsTrue (is_ascii_lowercase (slice_index (after_last is_dot host) 0))
+-- no byte is a space or below it, as the ends of lines are
+abbrev pub IsUnbroken : List ℕ → Type 0
+IsUnbroken bytes = All (λ b. 32 < b) bytes
 
-abbrev pub IsHost : List ℕ → Type 0
-IsHost host = (host ≡ codes "127.0.0.1") ⊎ IsHostName host
-
--- the first byte is one of the digits 1 to 9
-pub record BeginsWell (digits : List ℕ) : Type 0 where
-  pub low : 49 ≤ slice_index digits 0
-  pub high : slice_index digits 0 ≤ 57
+-- what a request says of the address stays in its line
+pub record FitsLines (address : Address) : Type 0 where
+  pub host : IsUnbroken address.host
+  pub target : IsUnbroken address.target
 
 -- nothing for the port 80, else a colon and the port in decimal, without a leading zero
 abbrev pub port_part : ℕ → List ℕ
 port_part port = if port == 80 then [] else 58 ∷ decimal port
-
--- a letter, a digit, a dot, an underscore, a hyphen or a slash
-abbrev pub is_path_byte : ℕ → Bool
-is_path_byte b = is_ascii_alphanumeric b || is_dot b || b == 95 || b == 45 || is_slash b
-
--- what may stand between two slashes: anything but . and ..
-abbrev pub is_segment : List ℕ → Bool
-is_segment segment = not (bytes_eq segment (codes ".")) && not (bytes_eq segment (codes ".."))
-
-pub record IsPath (path : List ℕ) : Type 0 where
-  pub begins : slice_index path 0 ≡ 47
-  pub each : IsTrue (list_all is_path_byte path)
-  pub segments : IsTrue (list_all is_segment (slice_split is_slash path))
-
--- the text is the address of this host, port and path
-pub record IsAddress (text host : List ℕ) (port : ℕ) (path : List ℕ) : Type 0 where
-  pub is : text ≡ codes "http://" ++ host ++ port_part port ++ path
-  pub short : length text ≤ 4096
-  pub is_host : IsHost host
-  pub least_port : 1 ≤ port
-  pub most_port : port ≤ 65535
-  pub is_path : IsPath path

@@ -1,22 +1,38 @@
--- Why an address is refused.
-use Rattle.std.specs.Prelude.{◌≡◌, ℕ, List}
-use Rattle.dm_request.specs.Address.{IsAddress}
+-- Which answers of a call are right. For each text there is one address or one refusal, and want of memory is the one
+-- answer that nothing rules out.
+use Rattle.std.specs.Prelude.{◌≡◌, ℕ, List, None, Result, Ok, Err, MatchResult}
 use Rattle.dm_types.specs.declared.address.Address.{Address}
 use Rattle.dm_request.specs.declared.address.AddressFault.{AddressFault}
 use Rattle.dm_request.specs.declared.address.AddressFault.TheVariants.{TooLong, NotUrl, NotHttp, NoMemory}
+use Rattle.dm_request.specs.Reading.{address_read, address_next}
 
--- no address has this text
-abbrev pub IsNoAddress : List ℕ → Type 0
-IsNoAddress text = (host : List ℕ) (port : ℕ) (path : List ℕ) → ¬ IsAddress text host port path
+-- the fault is the one that is expected, or memory was wanting
+abbrev pub IsFaultOf : {T : Type 0} → Result T AddressFault → AddressFault → Type 0
+IsFaultOf expected (TooLong length) = expected ≡ Err (TooLong length)
+IsFaultOf expected NotUrl = expected ≡ Err NotUrl
+IsFaultOf expected NotHttp = expected ≡ Err NotHttp
+IsFaultOf expected NoMemory = Unit {0}
 
--- what is read of a text: the text, and its host, port and path
-pub record IsRead (text : List ℕ) (address : Address) : Type 0 where
-  pub same : address.text ≡ text
-  pub parts : IsAddress text address.host address.port address.target
+-- the result is the one that is expected, or memory was wanting
+abbrev pub Answers : {T : Type 0} → Result T AddressFault → Result T AddressFault → Type 0
+Answers expected result = MatchResult result (λ value. expected ≡ Ok value) (IsFaultOf expected)
 
--- One fault stands for every refusal, and memory may be wanting. The other two do not come.
+-- the address is read of the text
+abbrev pub IsRead : List ℕ → Address → Type 0
+IsRead text address = address_read None text ≡ Ok address
+
+-- the text is refused so
 abbrev pub Refuses : List ℕ → AddressFault → Type 0
-Refuses text (TooLong n) = ⊥
-Refuses text NotUrl = IsNoAddress text
-Refuses text NotHttp = ⊥
-Refuses text NoMemory = Unit {0}
+Refuses text fault = IsFaultOf (address_read None text) fault
+
+-- the address is what the Location leads to
+abbrev pub IsNext : Address → List ℕ → Address → Type 0
+IsNext base location address = address_next base location ≡ Ok address
+
+-- the Location is refused so
+abbrev pub RefusesNext : Address → List ℕ → AddressFault → Type 0
+RefusesNext base location fault = IsFaultOf (address_next base location) fault
+
+-- no address is read of the text: it is refused for another cause than memory
+abbrev pub IsNoAddress : List ℕ → Type 0
+IsNoAddress text = (address : Address) → ¬ IsRead text address

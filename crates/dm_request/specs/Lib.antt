@@ -1,3 +1,4 @@
 pub mod Address
+pub mod Reading
 pub mod Fault
 pub mod Request

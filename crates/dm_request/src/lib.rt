@@ -2,13 +2,11 @@
 #![tactic(auto)]
 
 mod address;
-mod host;
-mod path;
-mod port;
+mod reading;
 mod request;
 
-pub use address::{AddressFault, read_address};
-pub use request::request_text;
+pub use address::{AddressFault, next_address, read_address};
+pub use request::{Ask, request_text};
 
 #[cfg(test)]
 mod tests;

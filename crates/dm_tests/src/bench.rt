@@ -1,24 +1,35 @@
 // What the tests run the top call on.
-ghost use Rattle.std.specs.Prelude.{◌≡◌, [], All, IfOk};
+ghost use Rattle.std.specs.Prelude.{◌≡◌, ◌≢◌, ◌<◌, [], ◌∷◌, All, IfOk};
 ghost use Rattle.dm_edge.specs.Script.{IsGood};
 
 use dm_cli::{Ran, run_words};
 use dm_disk::{Area, Disk, DiskFault, FailList, FailingCall, MemoryDisk, Place};
-use dm_edge::{ClockList, Net, NetFault, NetScript, SinkMem, WireFault, WireScript};
-use dm_types::{DiskKind, Listed, NoMemory, Text};
+use dm_edge::{
+    ClockList, Net, NetFails, NetFault, NetScript, SinkMem, WireFails, WireFault, WireScript,
+    WireScripts,
+};
+use dm_types::{DiskKind, Listed, NoMemory, NumberList, Text};
 use std::alloc::Global;
 
-/// Which calls fail, by their numbers: of the wire, of the output.
+/// How the outside behaves, and which of its calls fail.
 #[derive(Clone, Copy)]
-pub struct Failing {
-    pub wire: Option<u64>,
+pub struct Outside {
+    /// How the first connect fails.
+    pub connect: Option<NetFault>,
+    /// Which call of each wire fails, sends and receives counted together from 0, and how.
+    pub wire: Option<(u64, WireFault)>,
+    /// Which write to the output fails.
     pub out: Option<u64>,
+    /// Each receive gives one byte.
+    pub by_byte: bool,
 }
 
-impl Failing {
-    pub const NOTHING: Failing = Failing {
+impl Outside {
+    pub const SOUND: Outside = Outside {
+        connect: None,
         wire: None,
         out: None,
+        by_byte: false,
     };
 }
 
@@ -28,7 +39,8 @@ pub struct Outcome {
     pub status: u8,
     pub out: Text,
     pub errs: Text,
-    pub request: Text,
+    /// What each connection was sent, in order.
+    pub requests: Vec<Text>,
     pub disk: MemoryDisk,
 }
 
@@ -40,24 +52,72 @@ pub fn texts(alloc: Global, words: &[&[u8]]) -> Result<Vec<Text>, NoMemory> {
     Ok(list)
 }
 
-fn script(alloc: Global, stream: &[u8], failing: Option<u64>) -> Result<WireScript, NoMemory>
+fn one_call<F: Copy>(alloc: Global, call: u64, fault: F) -> Result<Listed<(u64, F)>, NoMemory>
+    ensures { IfOk result (λ list. list ≡ record { 0 = call; 1 = fault } ∷ []) }
+{
+    Ok(Listed::from_vec(Vec::from_slice(alloc, &[(call, fault)])?))
+}
+
+/// The list of the one call of a wire that fails. Want of memory is none that can be listed.
+fn wire_fails(alloc: Global, fails: Option<(u64, WireFault)>) -> Result<WireFails, NoMemory>
+    ensures { IfOk result (All (λ entry. entry.1 ≢ WireFault.NoMemory)) }
+{
+    match fails {
+        Some((call, WireFault::Failed)) => one_call(alloc, call, WireFault::Failed),
+        Some((call, WireFault::Timeout)) => one_call(alloc, call, WireFault::Timeout),
+        Some((_, WireFault::NoMemory)) => Ok(Listed::new(alloc)),
+        None => Ok(Listed::new(alloc)),
+    }
+}
+
+fn connect_fails(alloc: Global, fault: Option<NetFault>) -> Result<NetFails, NoMemory>
+    ensures { IfOk result (All (λ entry. entry.1 ≢ NetFault.NoMemory)) }
+{
+    match fault {
+        Some(NetFault::NoRoute) => one_call(alloc, 0, NetFault::NoRoute),
+        Some(NetFault::Refused) => one_call(alloc, 0, NetFault::Refused),
+        Some(NetFault::Timeout) => one_call(alloc, 0, NetFault::Timeout),
+        Some(NetFault::Failed) => one_call(alloc, 0, NetFault::Failed),
+        Some(NetFault::NoMemory) => Ok(Listed::new(alloc)),
+        None => Ok(Listed::new(alloc)),
+    }
+}
+
+/// As many cuts as there are bytes, each of one byte.
+fn ones(alloc: Global, count: usize) -> Result<NumberList, NoMemory>
+    ensures { IfOk result (All (λ cut. 0 < cut)) }
+{
+    let mut cuts = Listed::new(alloc);
+    for _ in 0..count {
+        cuts.push(1)?;
+    }
+    Ok(cuts)
+}
+
+fn script(alloc: Global, stream: &[u8], outside: Outside) -> Result<WireScript, NoMemory>
     ensures { IfOk result IsGood }
 {
-    let failing = match failing {
-        Some(call) => Listed::from_vec(Vec::from_slice(alloc, &[(call, WireFault::Failed)])?),
-        None => Listed::new(alloc),
-    };
+    let cuts = ones(alloc, if outside.by_byte { stream.len() } else { 0 })?;
     Ok(WireScript {
         stream: Text::from_bytes(alloc, stream)?,
-        cuts: Listed::new(alloc),
-        failing,
+        cuts,
+        failing: wire_fails(alloc, outside.wire)?,
     })
 }
 
-fn net(alloc: Global, stream: &[u8], failing: Option<u64>) -> Result<NetScript, NoMemory> {
+fn scripts(alloc: Global, streams: &[&[u8]], outside: Outside) -> Result<WireScripts, NoMemory>
+    ensures { IfOk result (All IsGood) }
+{
     let mut wires = Listed::new(alloc);
-    wires.push(script(alloc, stream, failing)?)?;
-    NetScript::new(wires, Listed::new(alloc))
+    for stream in streams {
+        wires.push(script(alloc, stream, outside)?)?;
+    }
+    Ok(wires)
+}
+
+fn net(alloc: Global, streams: &[&[u8]], outside: Outside) -> Result<NetScript, NoMemory> {
+    let wires = scripts(alloc, streams, outside)?;
+    NetScript::new(wires, connect_fails(alloc, outside.connect)?)
 }
 
 /// A disk on which one call fails.
@@ -93,12 +153,15 @@ pub fn start<N: Net>(
     Ok(run_words(alloc, words, disk, net, &mut clock, out, errs))
 }
 
-/// What the first connection was sent.
-fn request(alloc: Global, net: &NetScript) -> Result<Text, NoMemory> {
-    match net.closed(0) {
-        Some(exchange) => exchange.sent.copy(alloc),
-        None => Ok(Text::new(alloc)),
+/// What each of the first twenty connections was sent.
+fn requests(alloc: Global, net: &NetScript) -> Result<Vec<Text>, NoMemory> {
+    let mut list = Vec::new(alloc);
+    for place in 0..20 {
+        if let Some(exchange) = net.closed(place) {
+            list.push(exchange.sent.copy(alloc)?)?;
+        }
     }
+    Ok(list)
 }
 
 fn collect(
@@ -114,22 +177,22 @@ fn collect(
         status: ran.status,
         out,
         errs,
-        request: request(alloc, net)?,
+        requests: requests(alloc, net)?,
         disk: ran.disk,
     })
 }
 
-/// Runs the words against one connection that says this stream.
+/// Runs the words against connections that say these streams, one after the other.
 pub fn run(
     alloc: Global,
     words: &[&[u8]],
-    stream: &[u8],
+    streams: &[&[u8]],
     disk: MemoryDisk,
-    failing: Failing,
+    outside: Outside,
 ) -> Result<Outcome, NoMemory> {
     let words = texts(alloc, words)?;
-    let mut net = net(alloc, stream, failing.wire)?;
-    let mut out = output(alloc, failing.out)?;
+    let mut net = net(alloc, streams, outside)?;
+    let mut out = output(alloc, outside.out)?;
     let mut errs = output(alloc, None)?;
     let ran = start(alloc, &words, disk, &mut net, &mut out, &mut errs)?;
     collect(alloc, ran, &net, &out, &errs)

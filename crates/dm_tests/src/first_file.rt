@@ -1,10 +1,11 @@
 // One whole reply into one file, and what stands where none came.
-use crate::bench::{Failing, Outcome, disk, holds, length_of, run, touch};
+use crate::bench::{Outcome, Outside, disk, holds, length_of, run, touch};
+use dm_edge::WireFault;
 use dm_types::NoMemory;
 use std::alloc::Global;
 use std::test::Fail;
 
-const WORDS: &[&[u8]] = &[
+pub const WORDS: &[&[u8]] = &[
     b"get",
     b"--name",
     b"hello.txt",
@@ -14,18 +15,23 @@ const WORDS: &[&[u8]] = &[
 const REQUEST: &[u8] =
     b"GET /a/hello.txt HTTP/1.1\r\nHost: files.example\r\nUser-Agent: dm/1\r\nAccept: */*\r\nAccept-Encoding: identity\r\nConnection: close\r\n\r\n";
 
-const HELLO: &[u8] = b"HTTP/1.1 200 OK\r\nContent-Length: 11\r\n\r\nhello world";
+pub const HELLO: &[u8] = b"HTTP/1.1 200 OK\r\nContent-Length: 11\r\n\r\nhello world";
 
 const HEAD: usize = 39;
 
-const LINE: &[u8] = b"1 complete 11 11 hello.txt\n";
+pub const LINE: &[u8] = b"1 complete 11 11 hello.txt\n";
 
-const CUT_IN_HEAD: &[u8] = b"interrupted 20 NETWORK_FAILED\n";
+pub const CUT_IN_HEAD: &[u8] = b"interrupted 20 NETWORK_FAILED\n";
 
-const CUT_IN_CONTENT: &[u8] = b"interrupted 38 SERVER_CONTENT_LENGTH_MISMATCH\n";
+pub const CUT_IN_CONTENT: &[u8] = b"interrupted 38 SERVER_CONTENT_LENGTH_MISMATCH\n";
 
-fn is_printed(ran: &Outcome, status: u8, out: &[u8], errs: &[u8]) -> bool {
+pub fn is_printed(ran: &Outcome, status: u8, out: &[u8], errs: &[u8]) -> bool {
     ran.status == status && ran.out.bytes() == out && ran.errs.bytes() == errs
+}
+
+/// Whether one connection was made, and was sent this.
+fn sent_just(ran: &Outcome, request: &[u8]) -> bool {
+    ran.requests.len() == 1 && ran.requests.iter().all(|sent| sent.is(request))
 }
 
 fn stands(alloc: Global, ran: &mut Outcome) -> Result<bool, NoMemory> {
@@ -39,40 +45,40 @@ fn is_safe(alloc: Global, ran: &mut Outcome) -> Result<bool, NoMemory> {
 }
 
 /// Whether this stream leaves the name absent and ends so.
-fn is_interrupted(alloc: Global, stream: &[u8], errs: &[u8]) -> Result<bool, NoMemory> {
-    let mut ran = run(alloc, WORDS, stream, disk(alloc, None)?, Failing::NOTHING)?;
+pub fn is_interrupted(alloc: Global, stream: &[u8], errs: &[u8]) -> Result<bool, NoMemory> {
+    let mut ran = run(alloc, WORDS, &[stream], disk(alloc, None)?, Outside::SOUND)?;
     Ok(is_printed(&ran, 1, b"", errs) && !stands(alloc, &mut ran)?)
 }
 
 /// Whether a disk with this failing call leaves the name absent or whole, and is told.
 fn fails_on_disk(alloc: Global, call: u64) -> Result<bool, NoMemory> {
     let there = disk(alloc, Some(call))?;
-    let mut ran = run(alloc, WORDS, HELLO, there, Failing::NOTHING)?;
+    let mut ran = run(alloc, WORDS, &[HELLO], there, Outside::SOUND)?;
     Ok(is_printed(&ran, 6, b"", b"disk failed\n") && is_safe(alloc, &mut ran)?)
 }
 
 /// Whether a wire with this failing call leaves the name absent, and is told.
 fn fails_on_wire(alloc: Global, call: u64) -> Result<bool, NoMemory> {
-    let failing = Failing {
-        wire: Some(call),
-        out: None,
+    let outside = Outside {
+        wire: Some((call, WireFault::Failed)),
+        ..Outside::SOUND
     };
-    let mut ran = run(alloc, WORDS, HELLO, disk(alloc, None)?, failing)?;
+    let mut ran = run(alloc, WORDS, &[HELLO], disk(alloc, None)?, outside)?;
     Ok(is_printed(&ran, 1, b"", CUT_IN_HEAD) && !stands(alloc, &mut ran)?)
 }
 
 /// Whether these words are refused, and nothing is asked.
 fn is_refused(alloc: Global, words: &[&[u8]], errs: &[u8]) -> Result<bool, NoMemory> {
-    let ran = run(alloc, words, HELLO, disk(alloc, None)?, Failing::NOTHING)?;
-    Ok(is_printed(&ran, 2, b"", errs) && ran.request.bytes().is_empty())
+    let ran = run(alloc, words, &[HELLO], disk(alloc, None)?, Outside::SOUND)?;
+    Ok(is_printed(&ran, 2, b"", errs) && ran.requests.is_empty())
 }
 
 #[test]
 fn a_whole_reply_becomes_the_file(rt: HostRuntime) -> Result<(), Fail> {
     let alloc = rt.alloc();
-    let mut ran = run(alloc, WORDS, HELLO, disk(alloc, None)?, Failing::NOTHING)?;
+    let mut ran = run(alloc, WORDS, &[HELLO], disk(alloc, None)?, Outside::SOUND)?;
     assert!(rt; is_printed(&ran, 0, LINE, b""));
-    assert!(rt; ran.request.bytes() == REQUEST);
+    assert!(rt; sent_just(&ran, REQUEST));
     assert!(rt; holds(alloc, &mut ran.disk, b"hello.txt", b"hello world")?);
     Ok(())
 }
@@ -80,7 +86,7 @@ fn a_whole_reply_becomes_the_file(rt: HostRuntime) -> Result<(), Fail> {
 #[test]
 fn the_part_is_gone_afterwards(rt: HostRuntime) -> Result<(), Fail> {
     let alloc = rt.alloc();
-    let mut ran = run(alloc, WORDS, HELLO, disk(alloc, None)?, Failing::NOTHING)?;
+    let mut ran = run(alloc, WORDS, &[HELLO], disk(alloc, None)?, Outside::SOUND)?;
     let part = length_of(alloc, &mut ran.disk, b"Unconfirmed 1-1.crdownload")?;
     assert!(rt; part.is_none());
     Ok(())
@@ -90,30 +96,9 @@ fn the_part_is_gone_afterwards(rt: HostRuntime) -> Result<(), Fail> {
 fn an_empty_content_becomes_a_file(rt: HostRuntime) -> Result<(), Fail> {
     let alloc = rt.alloc();
     let stream = b"HTTP/1.1 200 OK\r\nContent-Length: 0\r\n\r\n";
-    let mut ran = run(alloc, WORDS, stream, disk(alloc, None)?, Failing::NOTHING)?;
+    let mut ran = run(alloc, WORDS, &[stream], disk(alloc, None)?, Outside::SOUND)?;
     assert!(rt; is_printed(&ran, 0, b"1 complete 0 0 hello.txt\n", b""));
     assert!(rt; holds(alloc, &mut ran.disk, b"hello.txt", b"")?);
-    Ok(())
-}
-
-#[test]
-fn each_reply_has_its_reason(rt: HostRuntime) -> Result<(), Fail> {
-    let alloc = rt.alloc();
-    let cases: &[(&[u8], &[u8])] = &[
-        (
-            b"HTTP/1.1 404 Not Found\r\nContent-Length: 0\r\n\r\n",
-            b"interrupted 30 SERVER_FAILED\n",
-        ),
-        (b"no head\r\n\r\n", b"interrupted 33 SERVER_BAD_CONTENT\n"),
-        (
-            b"HTTP/1.1 200 OK\r\n\r\nhello",
-            b"interrupted 33 SERVER_BAD_CONTENT\n",
-        ),
-        (b"", CUT_IN_HEAD),
-    ];
-    for (stream, errs) in cases {
-        assert!(rt; is_interrupted(alloc, stream, errs)?);
-    }
     Ok(())
 }
 
@@ -122,7 +107,7 @@ fn a_name_alike_is_taken(rt: HostRuntime) -> Result<(), Fail> {
     let alloc = rt.alloc();
     let mut there = disk(alloc, None)?;
     assert!(rt; touch(alloc, &mut there, b"HELLO.TXT")?);
-    let mut ran = run(alloc, WORDS, HELLO, there, Failing::NOTHING)?;
+    let mut ran = run(alloc, WORDS, &[HELLO], there, Outside::SOUND)?;
     assert!(rt; is_printed(&ran, 1, b"", b"interrupted 1 FILE_FAILED\n"));
     assert!(rt; !stands(alloc, &mut ran)?);
     assert!(rt; holds(alloc, &mut ran.disk, b"HELLO.TXT", b"")?);
@@ -166,11 +151,11 @@ fn each_failing_call_of_the_wire_is_told(rt: HostRuntime) -> Result<(), Fail> {
 #[test]
 fn a_failing_output_has_status_7(rt: HostRuntime) -> Result<(), Fail> {
     let alloc = rt.alloc();
-    let failing = Failing {
-        wire: None,
+    let outside = Outside {
         out: Some(0),
+        ..Outside::SOUND
     };
-    let mut ran = run(alloc, WORDS, HELLO, disk(alloc, None)?, failing)?;
+    let mut ran = run(alloc, WORDS, &[HELLO], disk(alloc, None)?, outside)?;
     assert!(rt; is_printed(&ran, 7, b"", b""));
     assert!(rt; is_safe(alloc, &mut ran)?);
     Ok(())

@@ -6,4 +6,6 @@ mod bench;
 #[cfg(test)]
 mod first_file;
 #[cfg(test)]
+mod replies;
+#[cfg(test)]
 mod socket;

@@ -13,8 +13,8 @@ loop-count-preserved g c =
     record {
       room = omega (arith, was.room, c.land_next.auto.buffer);
       at = omega (arith, was.at, moves.1);
-      wanted = moves.3 ∙ was.wanted;
-      unbroken = moves.4;
+      within = moves.2;
+      unbroken = moves.3;
       stands = c.in-Ok-More.ensures.stands;
       copied = λ tells_disk tells_wire read.
           let so_far = was.copied tells_disk tells_wire read in

@@ -1,7 +1,8 @@
-use Rattle.std.proofs.Common.{◌≡◌, ◌-◌, ◌<◌, [], length, None}
+use Rattle.std.proofs.Common.{◌≡◌, ◌-◌, ◌<◌, ◌≤◌, [], length, None}
 use Rattle.dm_types.specs.Faults.{NoneFell}
 use Rattle.dm_disk_model.specs.Disk.{now, Stands}
 use Rattle.dm_disk_model.specs.Names.{KeepsOthers}
+use Rattle.dm_edge.specs.Reply.{most_content}
 use Rattle.dm_reply.specs.Content.{HasRead}
 use Rattle.dm_cli.specs.Copying.{CopiedSoFar}
 use Rattle.dm_cli.proofs.copying.copy_content.Given as goal
@@ -13,7 +14,7 @@ invariant-loop-count g l =
     record {
       room : 0 < length l.buffer;
       at : l.at ≡ l.reader.given;
-      wanted : l.reader.wanted ≡ l.wanted;
+      within : l.reader.given ≤ most_content;
       unbroken : l.reader.broke ≡ None;
       stands : D.tells → Stands (now (D.history l.disk)) l.part;
       copied : D.tells → W.tells → HasRead (W.told l.initial.wire).given l.initial.reader [] → CopiedSoFar (W.told l.wire) l.reader (now (D.history l.disk)) l.part l.at;
@@ -25,4 +26,4 @@ invariant-loop-count g l =
     }
 
 abbrev pub decreases-loop-count : goal.decreases-loop-count
-decreases-loop-count g l = l.reader.wanted - l.reader.given
+decreases-loop-count g l = most_content - l.reader.given

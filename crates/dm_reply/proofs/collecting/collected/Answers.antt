@@ -1,6 +1,7 @@
-use Rattle.std.proofs.Common.{subst, sym}
-use Rattle.dm_reply.specs.Collected.{in_content}
+use Rattle.std.proofs.Common.{subst, sym, refl}
+use Rattle.dm_reply.specs.Collected.{in_content, led_on}
 use Rattle.dm_reply.specs.Content.{HasRead}
+use Rattle.dm_reply.proofs.HeadLemmas.{led_to}
 use Rattle.dm_reply.proofs.collecting.collected.Goals as goal
 
 pub loop-content-preserved : goal.loop-content-preserved
@@ -13,3 +14,8 @@ pub returns-in-Err-content-clause-broke : goal.returns-in-Err-content-clause-bro
 returns-in-Err-content-clause-broke g c tells fresh =
     in_content c.loop-content.content.items
     (c.in-Err-content.ensures.says tells c.loop-content.content.items (c.loop-content.invariant tells fresh)).0
+
+pub returns-in-Redirect-clause-broke : goal.returns-in-Redirect-clause-broke
+returns-in-Redirect-clause-broke g c tells fresh =
+    let says = c.in-Ok-head.ensures.says tells fresh in
+    led_on says.head _ (led_to (g.W.Wire.told c.head.new.wire) c.head.new.self c.in-Ok-head.head _ says c.in-Redirect.is) refl

@@ -1,4 +1,5 @@
 use Rattle.std.proofs.Common.{◌≡◌, ◌-◌, []}
+use Rattle.dm_edge.specs.Reply.{most_content}
 use Rattle.dm_reply.specs.Content.{HasRead}
 use Rattle.dm_reply.proofs.collecting.collected.Given as goal
 
@@ -7,4 +8,4 @@ invariant-loop-content g l =
     g.W.Wire.tells → (g.W.Wire.told l.fn.wire).given ≡ [] → HasRead (g.W.Wire.told l.wire).given l.reader l.content.items
 
 abbrev pub decreases-loop-content : goal.decreases-loop-content
-decreases-loop-content g l = l.reader.wanted - l.reader.given
+decreases-loop-content g l = most_content - l.reader.given

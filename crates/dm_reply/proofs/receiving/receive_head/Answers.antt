@@ -1,37 +1,70 @@
-use Rattle.std.proofs.Common.{arith, sym, ap, subst, ◌∙◌, take, ◌++◌, List, ℕ}
-use Rattle.std.proofs.lemmas.List.{length-take-le}
-use Rattle.dm_reply.specs.Reply.{HeadBroke, IsBadForm}
-use Rattle.dm_reply.proofs.ReceivingLemmas.{without_cause, received_behind, full_bad}
+use Rattle.std.proofs.Common.{◌+◌, [], List, ◌++◌, ℕ, sym, subst, ◌∙◌, arith}
+use Rattle.dm_edge.specs.Reply.{FrontBroke}
+use Rattle.dm_head.specs.Look.{FindsInterim, FindsContent, FindsRedirect}
+use Rattle.dm_reply.specs.Found.{HasPassed}
+use Rattle.dm_reply.proofs.HeadLemmas.{one_passed, more_passed, ninth_broke, refused_broke, more_broke, content_answer, redirect_answer, refused_cause, front_leaves}
 use Rattle.dm_reply.proofs.receiving.receive_head.Goals as goal
+
+pub returns-then-passed-eq-MOST_INTERIM-clause-broke : goal.returns-then-passed-eq-MOST_INTERIM-clause-broke
+returns-then-passed-eq-MOST_INTERIM-clause-broke g c tells fresh =
+    ninth_broke (g.W.Wire.told c.loop-size.wire) c.loop-size.ahead c.loop-size.passed c.in-Interim.size c.in-Interim.status
+    (c.loop-size.invariant.held tells fresh) c.if-passed-eq-MOST_INTERIM.true
+    (subst (λ (t : List ℕ). FindsInterim t c.in-Interim.size c.in-Interim.status) c.bytes.ensures.same c.in-Interim.ensures)
+
+pub loop-size-preserved-in-Interim : goal.loop-size-preserved-in-Interim
+loop-size-preserved-in-Interim g c =
+    let before = c.loop-size.invariant in
+    let finds = subst (λ (t : List ℕ). FindsInterim t c.in-Interim.size c.in-Interim.status) c.bytes.ensures.same c.in-Interim.ensures in
+    record {
+      few = omega (arith, before.few, c.if-passed-eq-MOST_INTERIM.false);
+      held = λ tells fresh.
+          subst (λ (t : List ℕ). HasPassed (g.W.Wire.told c.loop-size.wire).given t (c.loop-size.passed + 1)) (sym c.pass.ensures)
+          (one_passed (g.W.Wire.told c.loop-size.wire).given c.loop-size.ahead c.loop-size.passed c.in-Interim.size c.in-Interim.status (before.held tells fresh) finds);
+      sent = before.sent;
+      stays = before.stays;
+      later = before.later;
+    }
+
+pub returns-in-Content-clause-says : goal.returns-in-Content-clause-says
+returns-in-Content-clause-says g c tells fresh =
+    let finds = subst (λ (t : List ℕ). FindsContent t c.in-Content.start c.in-Content.framing c.in-Content.modified) c.bytes.ensures.same c.in-Content.ensures in
+    content_answer (g.W.Wire.told c.loop-size.wire) c.loop-size.ahead c.content_head.new.ahead c.loop-size.passed c.in-Content.start c.in-Content.framing
+    c.in-Content.modified c.content_head.result (c.loop-size.invariant.held tells fresh) c.loop-size.invariant.few finds c.content_head.ensures.found c.content_head.ensures.after
+
+pub returns-in-Redirect-clause-says : goal.returns-in-Redirect-clause-says
+returns-in-Redirect-clause-says g c tells fresh =
+    let finds = subst (λ (t : List ℕ). FindsRedirect t c.in-Redirect.status c.in-Redirect.location c.in-Redirect.modified) c.bytes.ensures.same c.in-Redirect.ensures in
+    redirect_answer (g.W.Wire.told c.loop-size.wire) c.loop-size.ahead c.loop-size.passed c.in-Redirect.status c.in-Redirect.location c.in-Redirect.modified
+    c.redirect_head.result (c.loop-size.invariant.held tells fresh) c.loop-size.invariant.few finds c.redirect_head.ensures.found
 
 pub returns-in-Refused-clause-broke : goal.returns-in-Refused-clause-broke
 returns-in-Refused-clause-broke g c tells fresh =
-    let held = c.loop-start.invariant.held tells fresh in
-    let left = (g.W.Wire.told c.loop-start.wire).left in
-    subst (λ (front : List ℕ). HeadBroke (front ++ left) c.in-Refused.broke) (sym held) (c.in-Refused.ensures.1 left)
+    refused_broke (g.W.Wire.told c.loop-size.wire) c.loop-size.ahead c.loop-size.passed c.in-Refused.cause (c.loop-size.invariant.held tells fresh)
+    c.loop-size.invariant.few
+    (subst (λ (t : List ℕ). (more : List ℕ) → FrontBroke (t ++ more) c.in-Refused.cause) c.bytes.ensures.same c.in-Refused.ensures)
 
 pub returns-in-Refused-clause-cause : goal.returns-in-Refused-clause-cause
 returns-in-Refused-clause-cause g c =
-    without_cause c.in-Refused.broke _ _ c.in-Refused.ensures.0 c.loop-start.invariant.later
+    refused_cause (c.bytes.result.now ++ []) c.in-Refused.cause _ _ (c.in-Refused.ensures []) c.loop-size.invariant.later
 
-pub returns-then-end-buffer-clause-broke : goal.returns-then-end-buffer-clause-broke
-returns-then-end-buffer-clause-broke g c tells fresh =
-    let held = c.loop-start.invariant.held tells fresh in
-    let left = (g.W.Wire.told c.loop-start.wire).left in
-    let front = take c.loop-start.end c.loop-start.buffer in
-    let full = length-take-le c.loop-start.end c.loop-start.buffer (omega arith) ∙ c.if-end-buffer.true ∙ c.loop-start.auto.buffer ∙ c.requires in
-    subst (λ (front : List ℕ). IsBadForm (front ++ left)) (sym held) (full_bad front left full c.in-Open.ensures.none)
-
-pub loop-start-preserved : goal.loop-start-preserved
-loop-start-preserved g c =
-    let before = c.loop-start.invariant in
+pub loop-size-preserved : goal.loop-size-preserved
+loop-size-preserved g c =
+    let before = c.loop-size.invariant in
     record {
-      within = omega (arith, c.in-Ok.ensures.within);
+      few = before.few;
       held = λ tells fresh.
-          let given = c.in-Ok.ensures.given tells in
-          given.given.0 ∙ ap (λ t. t ++ take c.in-Ok.received c.receive.new.buf) (before.held tells fresh)
-          ∙ sym (received_behind c.loop-start.end c.in-Ok.received c.loop-start.buffer c.receive.new.buf (omega arith) (omega (arith, c.in-Ok.ensures.within, c.receive.auto.buf)));
-      sent = λ tells. (c.in-Ok.ensures.given tells).sent ∙ before.sent tells;
+          more_passed (g.W.Wire.told c.loop-size.wire) (g.W.Wire.told c.receive_more.new.wire) c.loop-size.ahead c.receive_more.new.ahead c.loop-size.passed
+          (before.held tells fresh) (c.in-Ok.ensures.says tells);
+      sent = λ tells. c.in-Ok.ensures.sent tells ∙ before.sent tells;
       stays = (c.in-Ok.ensures.stays.0 ∙ before.stays.0, c.in-Ok.ensures.stays.1 ∙ before.stays.1);
       later = λ kind. omega (arith, before.later kind, c.in-Ok.ensures.cause.later kind);
     }
+
+pub returns-in-Err-clause-broke : goal.returns-in-Err-clause-broke
+returns-in-Err-clause-broke g c tells fresh =
+    more_broke (g.W.Wire.told c.loop-size.wire) (g.W.Wire.told c.receive_more.new.wire) c.loop-size.ahead c.receive_more.new.ahead c.loop-size.passed
+    c.in-Err.fault (c.loop-size.invariant.held tells fresh) c.loop-size.invariant.few (c.in-Err.ensures.says tells)
+
+pub returns-in-Refused-clause-unfinished : goal.returns-in-Refused-clause-unfinished
+returns-in-Refused-clause-unfinished g c tells fresh wire =
+    front_leaves (g.W.Wire.told c.loop-size.wire).given (c.bytes.result.now ++ []) c.in-Refused.cause (c.in-Refused.ensures []) wire

@@ -1,10 +1,15 @@
--- An address has one reading.
-use Rattle.std.proofs.Common.{◌∙◌}
-use Rattle.dm_request.proofs.Cuts.{one_reading}
+-- What is fetched is read of its own text again, and fits the lines of a request.
+use Rattle.std.proofs.Common.{sym, subst}
+use Rattle.dm_types.specs.declared.address.Address.{Address}
+use Rattle.dm_request.specs.Address.{FitsLines}
+use Rattle.dm_request.specs.Fault.{IsRead}
+use Rattle.dm_request.proofs.ReadingLemmas.{address_again, fits_lines}
 use Rattle.dm_request.proofs.address.read_address.Goals as goal
 
-pub returns-in-Ok-clause-only : goal.returns-in-Ok-clause-only
-returns-in-Ok-clause-only c = λ h p t a.
-    let one = one_reading c.args.text.now _ _ _ c.in-Some.ensures.some h p t a in
-    let same = c.in-Ok.ensures.parts in
-    (same.0 ∙ one.0, same.1 ∙ one.1, same.2 ∙ one.2)
+pub returns-in-Ok-address_of-clause-stable : goal.returns-in-Ok-address_of-clause-stable
+returns-in-Ok-address_of-clause-stable c =
+    subst (λ (address : Address). IsRead address.text address) (sym c.in-Ok-address_of.ensures.parts) (address_again c.in-Ok.url c.in-Ok.ensures.fetched)
+
+pub returns-in-Ok-address_of-clause-lines : goal.returns-in-Ok-address_of-clause-lines
+returns-in-Ok-address_of-clause-lines c =
+    subst (λ (address : Address). FitsLines address) (sym c.in-Ok-address_of.ensures.parts) (fits_lines c.in-Ok.url c.in-Ok.ensures.fetched)

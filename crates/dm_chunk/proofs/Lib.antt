@@ -1,0 +1,10 @@
+pub mod ListLemmas
+pub mod Places
+pub mod Bodies
+pub mod Forward
+pub mod Back
+pub mod Runs
+pub mod Texts
+pub mod LawLemmas
+pub mod StepLemmas
+pub mod WaitLemmas

@@ -1,0 +1,16 @@
+use Rattle.std.proofs.Common.{ℕ, List, ◌++◌, take, inl, inr, ◌∙◌, ap}
+use Rattle.dm_cli.proofs.Following.{send_cuts}
+use Rattle.dm_cli.proofs.follow.talk.Goals as goal
+
+pub returns-in-Err-clause-sent : goal.returns-in-Err-clause-sent
+returns-in-Err-clause-sent g c tells fresh =
+    let W = g.W.Wire in
+    let front = (c.in-Err.ensures.sent tells).sent in
+    inr (
+      send_cuts (W.faults c.args.wire.now) (W.faults c.send.new.self) c.in-Err.fault c.wire_cause.result c.wire_cause.ensures c.in-Err.ensures.cause.cause,
+      (front.0, front.1 ∙ ap (λ (s : List ℕ). s ++ take front.0 c.args.request.now) fresh.sent),
+    )
+
+pub returns-in-Err-head-clause-sent : goal.returns-in-Err-head-clause-sent
+returns-in-Err-head-clause-sent g c tells fresh =
+    inl (c.head.ensures.sent tells ∙ (c.in-Ok.ensures.sent tells).sent ∙ ap (λ (s : List ℕ). s ++ c.args.request.now) fresh.sent)

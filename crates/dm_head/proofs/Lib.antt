@@ -1,0 +1,8 @@
+pub mod FieldLemmas
+pub mod FoundLemmas
+pub mod FramingLemmas
+pub mod HeadLemmas
+pub mod LineLemmas
+pub mod ManyLines
+pub mod Outcomes
+pub mod PassLemmas

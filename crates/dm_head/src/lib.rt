@@ -1,0 +1,15 @@
+//! What the first bytes of a reply are: a whole head and what it says, the front of one, or none.
+#![tactic(auto)]
+
+mod fields;
+mod framing;
+mod laws;
+mod lengths;
+mod look;
+mod whole;
+
+pub use laws::{more_bytes, one_outcome};
+pub use look::{Look, look_at};
+
+#[cfg(test)]
+mod tests;

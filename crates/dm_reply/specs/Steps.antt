@@ -1,0 +1,68 @@
+-- One step of the content: what comes next, and what it makes of a reader.
+use Rattle.std.specs.Prelude.{◌≡◌, ℕ, ◌+◌, ◌<◌, ◌≤◌, List, [], ◌++◌, take, Some, None, Result, Ok, Err}
+use Rattle.dm_policy.specs.declared.cause.Cause.{Cause}
+use Rattle.dm_policy.specs.declared.cause.Cause.TheVariants as cause
+use Rattle.dm_edge.specs.declared.fault.WireFault.{WireFault}
+use Rattle.dm_edge.specs.declared.fault.WireFault.TheVariants as wire
+use Rattle.dm_edge.specs.Wire.{Told, stream_of}
+use Rattle.dm_edge.specs.Reply.{IsWhole, ContentBroke, most_content}
+use Rattle.dm_reply.specs.declared.body.Body.{Body}
+use Rattle.dm_reply.specs.declared.body.Body.TheVariants as body
+use Rattle.dm_reply.specs.declared.head.HeadFault.{HeadFault}
+use Rattle.dm_reply.specs.declared.head.HeadFault.TheVariants as head_fault
+use Rattle.dm_reply.specs.declared.got.Got.{Got}
+use Rattle.dm_reply.specs.declared.got.Got.TheVariants as got
+use Rattle.dm_reply.specs.Content.{Reading, HasRead}
+
+-- the cause that a fault of the wire is
+abbrev pub cause_of : WireFault → Cause
+cause_of wire.Failed = cause.NetFailed
+cause_of wire.Timeout = cause.NetTimeout
+cause_of wire.NoMemory = cause.Memory
+
+-- the same, while the head is read
+abbrev pub head_fault_of : WireFault → HeadFault
+head_fault_of wire.Failed = head_fault.Broke cause.NetFailed
+head_fault_of wire.Timeout = head_fault.Broke cause.NetTimeout
+head_fault_of wire.NoMemory = head_fault.NoMemory
+
+-- so many bytes of the stream came, from those ahead or from the wire; where none came it is the end
+pub record Nexts (before now : Told) (old new buffer : List ℕ) (n : ℕ) : Type 0 where
+  pub piece : List ℕ
+  pub given : now.given ≡ before.given ++ piece
+  pub moved : old ++ piece ≡ take n buffer ++ new
+  pub ended : n ≡ 0 → (now.left ≡ []) × (new ≡ [])
+
+-- a reader that nothing ended
+abbrev pub going : List ℕ → Body → ℕ → Reading
+going ahead body given = record { ahead = ahead; body = body; given = given; broke = None }
+
+-- a reader after an answer
+abbrev pub settled : Reading → Result Got Cause → Reading
+settled reading (Ok (got.Bytes n)) = record reading { given = reading.given + n }
+settled reading (Ok got.End) = reading
+settled reading (Err broke) = record reading { broke = Some broke }
+
+-- bytes keep to this limit, where so many were given before
+abbrev pub IsWithin : ℕ → ℕ → Result Got Cause → Type 0
+IsWithin limit given (Ok (got.Bytes n)) = given + n ≤ limit
+IsWithin limit given (Ok got.End) = Unit {0}
+IsWithin limit given (Err broke) = Unit {0}
+
+-- bytes are some, the caller's room is kept to, and so is this limit
+abbrev pub KeepsTo : ℕ → ℕ → ℕ → Result Got Cause → Type 0
+KeepsTo limit given room (Ok (got.Bytes n)) = (0 < n) × (n ≤ room) × (given + n ≤ limit)
+KeepsTo limit given room (Ok got.End) = Unit {0}
+KeepsTo limit given room (Err broke) = Unit {0}
+
+-- what an answer at the end says, which has no bytes
+abbrev pub EndSays : Told → Reading → Result Got Cause → List ℕ → Type 0
+EndSays now reading (Ok (got.Bytes n)) content = ⊥
+EndSays now reading (Ok got.End) content = IsWhole (stream_of now) content × HasRead now.given reading content
+EndSays now reading (Err cause) content = ContentBroke (stream_of now) content cause
+
+-- the most that a reader with this framing gives
+abbrev pub most_of : Body → ℕ
+most_of (body.Counted wanted) = wanted
+most_of body.ToEnd = most_content
+most_of (body.Chunked chunks) = most_content

@@ -1,0 +1,74 @@
+//! Content that comes in chunks (RFC 9112, section 7.1).
+ghost use Rattle.std.specs.Prelude.{◌≡◌, ◌<◌, ◌≤◌, ◌-◌, ℕ, List, length, min, max};
+ghost use Rattle.dm_types.specs.Faults.{HasCause};
+ghost use Rattle.dm_edge.specs.Reply.{most_content};
+ghost use Rattle.dm_reply.specs.Content.{HasRead, ContentSays};
+ghost use Rattle.dm_reply.specs.Faults.{cause_kind};
+ghost use Rattle.dm_reply.specs.Unfinished.{LeavesContent};
+ghost use Rattle.dm_reply.specs.Steps.{going, settled, KeepsTo};
+ghost use Rattle.dm_reply.specs.declared.body.Body.TheVariants as body;
+
+use crate::Got;
+use crate::ahead::Ahead;
+use crate::plain::{MOST_CONTENT, cause_of, least};
+use dm_chunk::{Chunks, Step};
+use dm_edge::Wire;
+use dm_policy::Cause;
+
+/// The next data of the chunks. Behind 2^40 bytes of it the decoder is still asked for one, and none is to come. The
+/// limits on chunk lines and trailers bound what is received before that.
+pub fn give_chunked<W: Wire>(
+    ahead: &mut Ahead,
+    chunks: &mut Chunks,
+    given: u64,
+    wire: &mut W,
+    buf: &mut [u8],
+) -> Result<Got, Cause>
+    requires room { 0 < length buf.old }
+    requires within { given ≤ most_content }
+    ensures keeps { KeepsTo most_content given (length buf.old) result }
+    ensures says { W.tells → (content : List ℕ) → HasRead (W.told wire.old).given (going ahead.old (body.Chunked chunks.old) given) content
+        → ContentSays (W.told wire.new) (settled (going ahead.new (body.Chunked chunks.new) given) result) result buf.new content }
+    ensures unfinished { W.tells → (content : List ℕ) → HasRead (W.told wire.old).given (going ahead.old (body.Chunked chunks.old) given) content
+        → LeavesContent (W.told wire.new).given content result }
+    ensures sent { W.tells → (W.told wire.new).sent ≡ (W.told wire.old).sent }
+    ensures stays { (W.asked wire.new ≡ W.asked wire.old) × (W.origin wire.new ≡ W.origin wire.old) }
+    ensures cause { HasCause cause_kind (W.faults wire.old) (W.faults wire.new) result }
+{
+    let room = room_for(given, buf.len());
+    loop {
+        match chunks.step(ahead.bytes(), room) {
+            Step::Data { from, count } => {
+                if given == MOST_CONTENT {
+                    return Err(Cause::TooLarge(MOST_CONTENT + 1));
+                }
+                ahead.give_behind(from, count, buf);
+                return Ok(Got::Bytes(count));
+            }
+            Step::End(count) => {
+                ahead.pass(count);
+                return Ok(Got::End);
+            }
+            Step::Broken => return Err(Cause::BadFraming),
+            Step::More => match ahead.refill(wire) {
+                Ok(0) => {
+                    return Err(Cause::ContentShort {
+                        have: given,
+                        wanted: None,
+                    });
+                }
+                Ok(_) => {}
+                Err(fault) => return Err(cause_of(fault)),
+            },
+        }
+    }
+}
+
+/// How much is asked of the decoder: what the caller takes and a content may still have, or the one byte that is too much.
+fn room_for(given: u64, room: usize) -> usize
+    requires some { 0 < room }
+    requires within { given ≤ most_content }
+    ensures { result ≡ max 1 (min (most_content - given) room) }
+{
+    least(MOST_CONTENT - given, room).max(1)
+}

@@ -1,0 +1,145 @@
+//! Content that stands in the stream as it is: by a count, or up to the connection's end.
+ghost use Rattle.std.specs.Prelude.{◌≡◌, ◌<◌, ◌≤◌, ℕ, List, [], length, min, IfOk, IfErr, MatchResult};
+ghost use Rattle.dm_types.specs.Faults.{HasCause};
+ghost use Rattle.dm_edge.specs.Faults.{wire_kind};
+ghost use Rattle.dm_edge.specs.Reply.{most_content};
+ghost use Rattle.dm_reply.specs.Ahead.{Stays};
+ghost use Rattle.dm_reply.specs.Content.{HasRead, ContentSays};
+ghost use Rattle.dm_reply.specs.Faults.{cause_kind};
+ghost use Rattle.dm_reply.specs.Unfinished.{LeavesContent};
+ghost use Rattle.dm_reply.specs.Steps.{cause_of, Nexts, going, settled, KeepsTo, EndSays};
+ghost use Rattle.dm_reply.specs.declared.body.Body.TheVariants as body;
+ghost use Rattle.dm_reply.specs.declared.got.Got.TheVariants as got;
+
+use crate::Got;
+use crate::ahead::Ahead;
+use dm_edge::{Wire, WireFault};
+use dm_policy::Cause;
+
+/// The most bytes that a content may have.
+pub const MOST_CONTENT: u64 = 1 << 40;
+
+/// The next bytes of a counted content. It receives at most what is lacking.
+pub fn give_counted<W: Wire>(
+    ahead: &mut Ahead,
+    wanted: u64,
+    given: u64,
+    wire: &mut W,
+    buf: &mut [u8],
+) -> Result<Got, Cause>
+    requires room { 0 < length buf.old }
+    requires within { (given ≤ wanted) × (wanted ≤ most_content) }
+    ensures keeps { KeepsTo wanted given (length buf.old) result }
+    ensures says { W.tells → (content : List ℕ) → HasRead (W.told wire.old).given (going ahead.old (body.Counted wanted) given) content
+        → ContentSays (W.told wire.new) (settled (going ahead.new (body.Counted wanted) given) result) result buf.new content }
+    ensures unfinished { W.tells → (content : List ℕ) → HasRead (W.told wire.old).given (going ahead.old (body.Counted wanted) given) content
+        → LeavesContent (W.told wire.new).given content result }
+    ensures sent { W.tells → (W.told wire.new).sent ≡ (W.told wire.old).sent }
+    ensures stays { (W.asked wire.new ≡ W.asked wire.old) × (W.origin wire.new ≡ W.origin wire.old) }
+    ensures cause { HasCause cause_kind (W.faults wire.old) (W.faults wire.new) result }
+{
+    if given == wanted {
+        return Ok(Got::End);
+    }
+    match next(ahead, least(wanted - given, buf.len()), wire, buf) {
+        Ok(0) => Err(Cause::ContentShort {
+            have: given,
+            wanted: Some(wanted),
+        }),
+        Ok(count) => Ok(Got::Bytes(count)),
+        Err(fault) => Err(cause_of(fault)),
+    }
+}
+
+/// The next bytes of a content that goes on to the connection's end. Behind 2^40 of them it asks for more, and none is to come.
+pub fn give_to_end<W: Wire>(
+    ahead: &mut Ahead,
+    given: u64,
+    wire: &mut W,
+    buf: &mut [u8],
+) -> Result<Got, Cause>
+    requires room { 0 < length buf.old }
+    requires within { given ≤ most_content }
+    ensures keeps { KeepsTo most_content given (length buf.old) result }
+    ensures says { W.tells → (content : List ℕ) → HasRead (W.told wire.old).given (going ahead.old body.ToEnd given) content
+        → ContentSays (W.told wire.new) (settled (going ahead.new body.ToEnd given) result) result buf.new content }
+    ensures unfinished { W.tells → (content : List ℕ) → HasRead (W.told wire.old).given (going ahead.old body.ToEnd given) content
+        → LeavesContent (W.told wire.new).given content result }
+    ensures sent { W.tells → (W.told wire.new).sent ≡ (W.told wire.old).sent }
+    ensures stays { (W.asked wire.new ≡ W.asked wire.old) × (W.origin wire.new ≡ W.origin wire.old) }
+    ensures cause { HasCause cause_kind (W.faults wire.old) (W.faults wire.new) result }
+{
+    if given == MOST_CONTENT {
+        return end_full(ahead, wire);
+    }
+    match next(ahead, least(MOST_CONTENT - given, buf.len()), wire, buf) {
+        Ok(0) => Ok(Got::End),
+        Ok(count) => Ok(Got::Bytes(count)),
+        Err(fault) => Err(cause_of(fault)),
+    }
+}
+
+/// The end of a content that has as many bytes as one may have.
+fn end_full<W: Wire>(ahead: &mut Ahead, wire: &mut W) -> Result<Got, Cause>
+    ensures no_bytes { IfOk result (λ answer. answer ≡ got.End) }
+    ensures says { W.tells → (content : List ℕ) → HasRead (W.told wire.old).given (going ahead.old body.ToEnd most_content) content
+        → EndSays (W.told wire.new) (going ahead.new body.ToEnd most_content) result content }
+    ensures unfinished { W.tells → (content : List ℕ) → HasRead (W.told wire.old).given (going ahead.old body.ToEnd most_content) content
+        → LeavesContent (W.told wire.new).given content result }
+    ensures sent { W.tells → (W.told wire.new).sent ≡ (W.told wire.old).sent }
+    ensures stays { (W.asked wire.new ≡ W.asked wire.old) × (W.origin wire.new ≡ W.origin wire.old) }
+    ensures cause { HasCause cause_kind (W.faults wire.old) (W.faults wire.new) result }
+{
+    if !ahead.is_empty() {
+        return Err(Cause::TooLarge(MOST_CONTENT + 1));
+    }
+    match ahead.receive(wire) {
+        Ok(0) => Ok(Got::End),
+        Ok(_) => Err(Cause::TooLarge(MOST_CONTENT + 1)),
+        Err(fault) => Err(cause_of(fault)),
+    }
+}
+
+/// The next bytes of the stream, at most so many: those that came already, or else more from the wire. 0 is the end.
+pub fn next<W: Wire>(
+    ahead: &mut Ahead,
+    room: usize,
+    wire: &mut W,
+    buf: &mut [u8],
+) -> Result<usize, WireFault>
+    requires { (0 < room) × (room ≤ length buf.old) }
+    ensures within { IfOk result (λ n. n ≤ room) }
+    ensures told { W.tells → MatchResult result (Nexts (W.told wire.old) (W.told wire.new) ahead.old ahead.new buf.new) (λ _. Stays (W.told wire.old) (W.told wire.new)) }
+    ensures in_place { IfErr result (λ _. ahead.old ≡ []) }
+    ensures sent { W.tells → (W.told wire.new).sent ≡ (W.told wire.old).sent }
+    ensures stays { (W.asked wire.new ≡ W.asked wire.old) × (W.origin wire.new ≡ W.origin wire.old) }
+    ensures cause { HasCause wire_kind (W.faults wire.old) (W.faults wire.new) result }
+{
+    if ahead.is_empty() {
+        wire.receive(&mut buf[..room])
+    } else {
+        Ok(ahead.give(room, buf))
+    }
+}
+
+/// The smaller of the two.
+pub fn least(lacking: u64, room: usize) -> usize
+    ensures { result ≡ min lacking room }
+{
+    if lacking < room as u64 {
+        lacking as usize
+    } else {
+        room
+    }
+}
+
+/// What a fault of the wire is to a reader.
+pub fn cause_of(fault: WireFault) -> Cause
+    ensures { result ≡ cause_of fault }
+{
+    match fault {
+        WireFault::Failed => Cause::NetFailed,
+        WireFault::Timeout => Cause::NetTimeout,
+        WireFault::NoMemory => Cause::Memory,
+    }
+}

@@ -1,9 +1,0 @@
--- The parts between the slashes are what the chain goes over.
-use Rattle.std.proofs.Common.{rules, tests}
-use Rattle.std.proofs.lemmas.Iterator.Search.{all_from_yields_List}
-use Rattle.std.proofs.lemmas.Iterator.Splits.{YieldsList-from_slice_split}
-use Rattle.dm_request.specs.Address.{is_slash, is_segment}
-use Rattle.dm_request.proofs.path.has_no_dot_segment.Goals as goal
-
-pub returns : goal.returns
-returns c = all_from_yields_List is_segment _ _ _ c.all.ensures.ran (YieldsList-from_slice_split _ is_slash c.args.path.now c.split.ensures.rest c.split.ensures.done c.split.ensures.closure (λ x b q k. search (rules, tests))) (λ x b q k. search (rules, tests))
