@@ -3,6 +3,7 @@ pub mod Copying
 pub mod Ending
 pub mod Following
 pub mod Get
+pub mod Listing
 pub mod Print
 pub mod Redirects
 pub mod Run

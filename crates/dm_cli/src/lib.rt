@@ -5,9 +5,12 @@ mod copying;
 mod ending;
 mod follow;
 mod get;
+mod listing;
 mod printing;
 mod run;
+mod words;
 
 pub use ending::Ending;
 pub use printing::print;
-pub use run::{Ran, refused, run_words};
+pub use run::Ran;
+pub use words::{refused, run_words};

@@ -47,9 +47,9 @@ fn run<D: Disk, N: Net>(alloc: Global, words: &[Text], disk: &mut D, net: &mut N
     }
 }
 
-/// One run of the program: the words are a command, the disk is handed back, and what is printed
-/// and the status say how it ended.
-pub fn run_words<D: Disk, N: Net, C: Clock, S: Sink>(
+/// One run of a get: the words are one, the disk is handed back, and what is printed and the status
+/// say how it ended.
+pub fn run_get<D: Disk, N: Net, C: Clock, S: Sink>(
     alloc: Global,
     words: &[Text],
     disk: D,
@@ -80,9 +80,8 @@ pub fn run_words<D: Disk, N: Net, C: Clock, S: Sink>(
     Ran { status, disk }
 }
 
-/// Whether the words are refused before any disk is looked at, and how: they are no command, or
-/// their address is refused. `None` where they are a command, or memory was wanting to read it.
-pub fn refused(alloc: Global, words: &[Text]) -> Option<Ending>
+/// Whether the words are refused as a get: they are none, or their address is refused.
+pub fn refused_get(alloc: Global, words: &[Text]) -> Option<Ending>
     ensures refused { IfSome result (Refused words.now) }
     ensures none { IfNone result (IsSomeGet words.now) }
 {

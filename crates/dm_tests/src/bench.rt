@@ -55,7 +55,9 @@ pub fn texts(alloc: Global, words: &[&[u8]]) -> Result<Vec<Text>, NoMemory> {
 fn one_call<F: Copy>(alloc: Global, call: u64, fault: F) -> Result<Listed<(u64, F)>, NoMemory>
     ensures { IfOk result (λ list. list ≡ record { 0 = call; 1 = fault } ∷ []) }
 {
-    Ok(Listed::from_vec(Vec::from_slice(alloc, &[(call, fault)])?))
+    let mut list = Listed::new(alloc);
+    list.push((call, fault))?;
+    Ok(list)
 }
 
 /// The list of the one call of a wire that fails. Want of memory is none that can be listed.

@@ -6,6 +6,8 @@ mod bench;
 #[cfg(test)]
 mod first_file;
 #[cfg(test)]
+mod list;
+#[cfg(test)]
 mod replies;
 #[cfg(test)]
 mod socket;

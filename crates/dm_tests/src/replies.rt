@@ -8,7 +8,8 @@ use dm_types::NoMemory;
 use std::alloc::Global;
 use std::test::Fail;
 
-const CHUNKED: &[u8] = b"HTTP/1.1 200 OK\r\nTransfer-Encoding: chunked\r\n\r\n5\r\nhello\r\n6\r\n world\r\n0\r\n\r\n";
+const CHUNKED: &[u8] =
+    b"HTTP/1.1 200 OK\r\nTransfer-Encoding: chunked\r\n\r\n5\r\nhello\r\n6\r\n world\r\n0\r\n\r\n";
 
 const CHUNKED_HEAD: usize = 47;
 
@@ -65,7 +66,10 @@ fn chunks_end_anywhere(rt: HostRuntime) -> Result<(), Fail> {
         } else {
             CUT_IN_CONTENT
         };
-        assert!(rt; is_interrupted(alloc, &CHUNKED[..end], errs)?, "ended at {end}");
+        assert!(rt;
+            is_interrupted(alloc, &CHUNKED[..end], errs)?,
+            "ended at {end}"
+        );
     }
     Ok(())
 }
@@ -147,8 +151,20 @@ fn redirects_are_followed(rt: HostRuntime) -> Result<(), Fail> {
     assert!(rt; is_brought(alloc, &[ELSEWHERE, BESIDE, CHUNKED], Outside::SOUND)?);
     let streams = &[ELSEWHERE, BESIDE, HELLO];
     let ran = run(alloc, WORDS, streams, disk(alloc, None)?, Outside::SOUND)?;
-    assert!(rt; asked(&ran, 0, b"GET /a/hello.txt HTTP/1.1\r\nHost: files.example\r\n"));
-    assert!(rt; asked(&ran, 1, b"GET /b/c?d HTTP/1.1\r\nHost: other.example:81\r\n"));
+    assert!(rt;
+        asked(
+            &ran,
+            0,
+            b"GET /a/hello.txt HTTP/1.1\r\nHost: files.example\r\n"
+        )
+    );
+    assert!(rt;
+        asked(
+            &ran,
+            1,
+            b"GET /b/c?d HTTP/1.1\r\nHost: other.example:81\r\n"
+        )
+    );
     assert!(rt; asked(&ran, 2, b"GET /next HTTP/1.1\r\nHost: other.example:81\r\n"));
     Ok(())
 }

@@ -1,6 +1,6 @@
 use Rattle.dm_disk_model.specs.Disk.{now}
 use Rattle.dm_cli.proofs.Completing.{completes}
-use Rattle.dm_cli.proofs.run.run_words.Goals as goal
+use Rattle.dm_cli.proofs.run.run_get.Goals as goal
 
 pub returns-clause-says : goal.returns-clause-says
 returns-clause-says g c =

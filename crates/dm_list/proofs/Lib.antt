@@ -1,0 +1,6 @@
+pub mod Looks
+pub mod Moments
+pub mod OneAnswer
+pub mod Tries
+pub mod Unopened
+pub mod Words

@@ -1,0 +1,5 @@
+pub mod Ending
+pub mod Moments
+pub mod Run
+pub mod Says
+pub mod Steps
