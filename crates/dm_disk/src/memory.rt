@@ -29,7 +29,10 @@ impl MemoryDisk {
         alloc: Global,
         failing: FailList,
         stop_after: Option<u64>,
-    ) -> Result<MemoryDisk, NoMemory> {
+    ) -> Result<MemoryDisk, NoMemory>
+        ensures empty { IfOk result (λ disk. history_in disk ≡ history_of []) }
+        ensures fresh { IfOk result (IsFresh failing stop_after) }
+    {
         Ok(MemoryDisk {
             meter: Meter::new(failing, stop_after),
             log: Log::new(alloc),
