@@ -8,3 +8,7 @@ pub mod Taking
 pub mod Replay
 pub mod Listings
 pub mod Steps
+pub mod Entries
+pub mod Standings
+pub mod Following
+pub mod Sizes

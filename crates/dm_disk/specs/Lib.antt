@@ -6,3 +6,4 @@ pub mod Meter
 pub mod Given
 pub mod Memory
 pub mod Image
+pub mod Index

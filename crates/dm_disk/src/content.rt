@@ -5,6 +5,7 @@ ghost use Rattle.dm_disk.specs.Look.{Grows, GrowsIn, Lays, LaysIn, file_in, Show
 
 use crate::call::{Act, Call};
 use crate::find::is_same_area;
+use crate::index::Standing;
 use dm_disk_model::Area;
 
 /// The length of a file in bytes.
@@ -58,17 +59,24 @@ fn length_past(act: &Act, number: u64, file: u64, before: u64) -> u64
 }
 
 /// Reads a file from a place on, as far as it and the buffer reach.
-pub(crate) fn read_file(calls: &[Call], area: Area, file: u64, at: u64, buf: &mut [u8]) -> usize
-    requires { most_end calls.now < 2 ^ 63 }
+pub(crate) fn read_file(
+    calls: &[Call],
+    area: Area,
+    standing: Standing,
+    at: u64,
+    buf: &mut [u8],
+) -> usize
+    requires ends { most_end calls.now < 2 ^ 63 }
+    requires size { standing.size ≡ length (file_in area standing.file (disk_after calls.now)).bytes }
+    requires near { standing.size < 2 ^ 63 }
     ensures within { result ≤ length buf.old }
-    ensures read { Reads (file_in area file (disk_after calls.now)).bytes at result buf.new }
+    ensures read { Reads (file_in area standing.file (disk_after calls.now)).bytes at result buf.new }
 {
-    let length = length_of(calls, area, file);
-    if at >= length {
+    if at >= standing.size {
         return 0;
     }
-    let count = shorter(length - at, buf.len());
-    show(calls, area, file, at, &mut buf[..count]);
+    let count = shorter(standing.size - at, buf.len());
+    show(calls, area, standing.file, at, &mut buf[..count]);
     count
 }
 

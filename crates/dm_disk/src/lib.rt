@@ -6,6 +6,7 @@ mod content;
 mod failing;
 mod find;
 mod image;
+mod index;
 mod laws;
 mod listing;
 mod log;

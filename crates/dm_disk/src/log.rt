@@ -1,24 +1,27 @@
-ghost use Rattle.std.specs.Prelude.{◌≡◌, ◌++◌, ◌∷◌, [], ◌<◌, ◌+◌, ◌^◌, ℕ, length, OnOk, OnErr, Some, IsSome};
+ghost use Rattle.std.specs.Prelude.{◌≡◌, ◌++◌, ◌∷◌, [], ◌<◌, ◌+◌, ◌^◌, ℕ, length, IfOk, OnOk, OnErr, Some, IsSome};
 ghost use Rattle.std.specs.Option.{option_map};
 ghost use Rattle.dm_disk_model.specs.Disk.{folder_in, bytes_at};
-ghost use Rattle.dm_disk_model.specs.Folder.{names_of};
+ghost use Rattle.dm_disk_model.specs.Folder.{names_of, Lists};
 ghost use Rattle.dm_disk.specs.Calls.{disk_after, end_of, most_end};
+ghost use Rattle.dm_disk.specs.Index.{Tells};
+ghost use Rattle.dm_disk.specs.Look.{file_in};
 ghost use Rattle.dm_disk.specs.declared.call.Act.TheVariants as acts;
 
 use crate::call::{Act, Call};
-use crate::content::length_of;
-use crate::find::file_under;
+use crate::index::{Index, Standing};
 use dm_disk_model::{Area, Place};
 use dm_types::{NoMemory, Text};
 use std::alloc::Global;
 
-/// The calls that changed the disk, in order. Each is one moment of its history. Where memory is
-/// wanting nothing is recorded.
+/// The calls that changed the disk, in order. Each is one moment of its history. Beside them stands
+/// an index of the names that they leave. Where memory is wanting nothing is recorded.
 #[derive(Drop)]
 pub(crate) struct Log {
     pub alloc: Global,
     pub calls: Vec<Call>,
+    pub index: Index,
     ghost near: { most_end calls.items < 2 ^ 63 },
+    ghost told: { Tells (disk_after calls.items) index.entries.items },
 }
 
 impl Log {
@@ -28,6 +31,7 @@ impl Log {
         Log {
             alloc,
             calls: Vec::new(alloc),
+            index: Index::new(alloc),
         }
     }
 
@@ -36,6 +40,9 @@ impl Log {
         ensures ok { OnOk result (self.new.calls.items ≡ self.old.calls.items ++ call ∷ []) }
         ensures err { OnErr result (self.new.calls.items ≡ self.old.calls.items) }
     {
+        self.calls.reserve(1)?;
+        self.index
+            .follow(self.alloc, self.calls.len() as u64, &call)?;
         match self.calls.push(call) {
             Ok(()) => Ok(()),
             Err(_) => Err(NoMemory),
@@ -109,14 +116,31 @@ impl Log {
         })
     }
 
+    /// The names that stand in a folder.
+    pub fn names(&self, alloc: Global, area: Area) -> Result<Vec<Text>, NoMemory>
+        ensures { IfOk result (λ names. Lists (folder_in area (disk_after self.now.calls.items)) names.items) }
+    {
+        self.index.names(alloc, area)
+    }
+
     /// The length of the file at a place, where one stands.
     pub fn length(&self, place: &Place) -> Option<u64>
         ensures { result ≡ option_map length (bytes_at (disk_after self.now.calls.items) place.now) }
     {
-        match file_under(&self.calls, place.area, place.name.bytes()) {
-            Some(file) => Some(length_of(&self.calls, place.area, file)),
+        match self.index.find(place.area, place.name.bytes()) {
+            Some(standing) => Some(standing.size),
             None => None,
         }
+    }
+
+    /// The file that stands at a place.
+    pub fn standing_at(&self, place: &Place) -> Standing
+        requires { IsSome (names_of (folder_in place.now.area (disk_after self.now.calls.items)) place.now.name) }
+        ensures file { names_of (folder_in place.now.area (disk_after self.now.calls.items)) place.now.name ≡ Some result.file }
+        ensures size { result.size ≡ length (file_in place.now.area result.file (disk_after self.now.calls.items)).bytes }
+        ensures near { result.size < 2 ^ 63 }
+    {
+        self.index.find(place.area, place.name.bytes()).unwrap()
     }
 
     /// The number of the file that stands at a place.
@@ -124,6 +148,6 @@ impl Log {
         requires { IsSome (names_of (folder_in place.now.area (disk_after self.now.calls.items)) place.now.name) }
         ensures { names_of (folder_in place.now.area (disk_after self.now.calls.items)) place.now.name ≡ Some result }
     {
-        file_under(&self.calls, place.area, place.name.bytes()).unwrap()
+        self.standing_at(place).file
     }
 }

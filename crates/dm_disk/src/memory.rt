@@ -1,9 +1,8 @@
 ghost use Rattle.std.specs.Prelude.{◌≡◌, ◌↔◌, ◌≤◌, ◌+◌, ◌^◌, IsTrue};
 
-use crate::content::{length_of, read_file};
+use crate::content::read_file;
 use crate::failing::FailList;
 use crate::image::{Pick, image_log};
-use crate::listing::list_names;
 use crate::log::Log;
 use crate::meter::Meter;
 use dm_disk_model::{Area, Disk, DiskFault, NameList, NamesFault, Place};
@@ -99,7 +98,7 @@ impl Disk for MemoryDisk {
     {
         match self.meter.begin() {
             Err(DiskFault(kind)) => Err(NamesFault::Disk(kind)),
-            Ok(()) => match list_names(alloc, &self.log.calls, area) {
+            Ok(()) => match self.log.names(alloc, area) {
                 Ok(names) => Ok(Listed::from_vec(names)),
                 Err(NoMemory) => Err(NamesFault::NoMemory),
             },
@@ -127,8 +126,8 @@ impl Disk for MemoryDisk {
         ensures turn { IsInTurn self.old self.new (fault_of result) }
     {
         self.meter.begin()?;
-        let file = self.log.file_at(place);
-        Ok(read_file(&self.log.calls, place.area, file, at, buf))
+        let standing = self.log.standing_at(place);
+        Ok(read_file(&self.log.calls, place.area, standing, at, buf))
     }
 
     fn create(&mut self, place: &Place) -> Result<(), DiskFault>
