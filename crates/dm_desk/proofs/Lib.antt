@@ -1,4 +1,7 @@
+pub mod Answering
+pub mod Changings
 pub mod Desks
+pub mod Dues
 pub mod Openings
 pub mod Orders
 pub mod Pages

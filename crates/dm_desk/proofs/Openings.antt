@@ -24,7 +24,7 @@ use Rattle.dm_kept.specs.Spelled.{Records, bodies_of}
 use Rattle.dm_kept.proofs.Histories.{taken_more}
 use Rattle.dm_kept.proofs.Images.{at_first, kept_weaker}
 use Rattle.dm_desk.specs.Bodies.{IsListOf, ListFails}
-use Rattle.dm_desk.specs.Opening.{Fails, IsFound, IsOpened, IsRead, OnlyBefore, OpenLeaves, reopened_by, reopening, unrecorded_fault}
+use Rattle.dm_desk.specs.Opening.{Fails, IsFound, IsOpened, IsRead, OnlyBefore, OpenLeaves, ReopenKeeps, reopened_by, reopening, unrecorded_fault}
 use Rattle.dm_desk.specs.Recording.{RecordDoes, Stays, tried_by}
 use Rattle.dm_desk.specs.declared.opening.FoundList.{FoundList}
 use Rattle.dm_desk.specs.declared.fault.Unrecorded.{Unrecorded}
@@ -229,3 +229,8 @@ found_none start middle field finds is = subst (λ (found : finding.Found). Find
 pub found_put : (start end : Clock) (limit gate gate' : ℕ) (items items' : Listing) → gate' ≡ gate → items' ≡ items → IsFound start limit (λ history. Stays history gate items end) → IsFound start limit (λ history. Stays history gate' items' end)
 found_put start end limit gate gate' items items' same_gate same_items is =
     subst (λ (n : ℕ). IsFound start limit (λ history. Stays history n items' end)) (sym same_gate) (subst (λ (v : Listing). IsFound start limit (λ history. Stays history gate v end)) (sym same_items) is)
+
+-- a list that was found is one that the journal held
+pub keeps_found : (start end : Clock) (limit gate : ℕ) (old items items' : Listing) → items' ≡ items → IsFound start limit (λ history. Stays history gate items end) → ReopenKeeps start limit old items'
+keeps_found start end limit gate old items items' same is =
+    inr (record { found = is.found; reads = is.reads; taken = is.taken; whole = subst (IsOf is.found) (sym same) is.whole.list })

@@ -1,14 +1,17 @@
 -- What recording an entry did, from the calls that it makes.
-use Rattle.std.proofs.Common.{◌≡◌, ℕ, ◌≤◌, [], ◌∷◌, ◌++◌, Ok, Err, refl}
+use Rattle.std.proofs.Common.{◌≡◌, ◌≢◌, ℕ, ◌≤◌, [], ◌∷◌, ◌++◌, Ok, Err, refl}
 use Rattle.dm_types.specs.declared.entry.Entry.{Entry}
+use Rattle.dm_types.specs.declared.entry.Entry.TheVariants as entries
 use Rattle.dm_disk_model.specs.Disk.{History as Clock, now}
 use Rattle.dm_disk_model.specs.Moments.{LeavesOnly}
 use Rattle.dm_disk_model.specs.declared.place.DiskFault.{DiskFault}
 use Rattle.dm_disk_model.proofs.Reaching.{at_start}
 use Rattle.dm_record.specs.Spelling.{spelling_of}
 use Rattle.dm_record.specs.Limits.{IsEntry}
+use Rattle.dm_item.specs.declared.fault.ApplyFault.{ApplyFault}
+use Rattle.dm_item.specs.declared.fault.ApplyFault.TheVariants as applies
 use Rattle.dm_item.specs.Lawful.{History}
-use Rattle.dm_item.specs.Listing.{Listing, Takes}
+use Rattle.dm_item.specs.Listing.{Admits, Declines, Listing, Takes}
 use Rattle.dm_item.proofs.Histories.{keeps_step}
 use Rattle.dm_journal.specs.AtRest.{AtRest, WithOrWithout}
 use Rattle.dm_kept.specs.Keeping.{Does}
@@ -17,8 +20,8 @@ use Rattle.dm_kept.specs.Room.{MayFollow, most_items}
 use Rattle.dm_kept.specs.Spelled.{bodies_of}
 use Rattle.dm_kept.proofs.Histories.{follows_more}
 use Rattle.dm_kept.proofs.Images.{moments, sits_kept, sits_more}
-use Rattle.dm_kept.proofs.Listings.{follows_of}
-use Rattle.dm_desk.specs.Recording.{MayTake, RecordDoes, Stays}
+use Rattle.dm_kept.proofs.Listings.{declined, follows_of}
+use Rattle.dm_desk.specs.Recording.{RecordDoes, Stays}
 use Rattle.dm_desk.specs.declared.fault.Unrecorded.TheVariants.{NoMemory, Journal}
 
 -- nothing was done
@@ -34,7 +37,7 @@ module _ (start : Clock) (history : History) (gate : ℕ) (items : Listing) (sta
   pub nothing_recorded : RecordDoes start start gate items history entry (Err NoMemory)
   nothing_recorded = did_nothing start history gate (λ whole. Unit {0}) stays.sits tt
 
-  module _ (is : IsEntry entry) (may : MayTake items entry) (end : Clock) (only : LeavesOnly start end (WithOrWithout (bodies_of history) (spelling_of entry))) where
+  module _ (is : IsEntry entry) (may : Admits items entry) (end : Clock) (only : LeavesOnly start end (WithOrWithout (bodies_of history) (spelling_of entry))) where
     follows : MayFollow most_items history entry
     follows = follows_more items.limit most_items history entry few (follows_of items entry history stays.list may.room may.meets)
 
@@ -56,3 +59,7 @@ module _ (start : Clock) (history : History) (gate : ℕ) (items : Listing) (sta
         list = keeps_step history entry items new stays.list takes;
       };
     }
+
+-- an entry that the list takes without memory isn't declined
+pub not_declined : (items : Listing) (entry : Entry) (fault : ApplyFault) → Admits items entry → Declines items entry fault → fault ≢ applies.NoMemory → ⊥
+not_declined items entry fault may declines other = other (declined items entry fault may.room may.meets declines)

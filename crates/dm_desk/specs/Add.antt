@@ -1,5 +1,5 @@
 -- What adding an item answers.
-use Rattle.std.specs.Prelude.{◌≡◌, ◌≢◌, ◌⊎◌, ◌≤◌, ℕ, Bool, true, false, List, [], ◌∷◌, length, Result, Ok, Err}
+use Rattle.std.specs.Prelude.{◌≡◌, ◌≢◌, ◌⊎◌, ◌≤◌, ℕ, true, false, List, [], ◌∷◌, length, Result, Ok, Err}
 use Rattle.dm_types.specs.declared.entry.Entry.{Entry}
 use Rattle.dm_types.specs.declared.entry.Entry.TheVariants.{Added}
 use Rattle.dm_types.specs.declared.item.Item.{Item}
@@ -75,11 +75,20 @@ CheckedBy items order (checks.Other id) = IsOther items.items order id
 CheckedBy items order (checks.Full count) = IsFreeWord order.word items.items × (IsFull items × (count ≡ length items.items))
 
 -- only the desk's disk, items and journal may have changed
-pub record Adds {D O : Type 0} (old new : View D O) (order : Order) (at : ℕ) (broken : Bool) : Type 0 where
+pub record Adds {D O : Type 0} (old new : View D O) (order : Order) (at : ℕ) : Type 0 where
   pub whole : old.broken ≡ false
   pub fresh : IsNew old.items order
   pub items : new.items ≡ applied (added_by old.items order at) old.items
-  pub broken_is : new.broken ≡ broken
+  pub broken_is : new.broken ≡ false
+  pub origin : new.origin ≡ old.origin
+  pub limits : new.limits ≡ old.limits
+
+-- The order is for a new item, and its entry isn't recorded. The desk is broken, and its list is as it was.
+pub record Breaks {D O : Type 0} (old new : View D O) (order : Order) : Type 0 where
+  pub whole : old.broken ≡ false
+  pub fresh : IsNew old.items order
+  pub items : new.items ≡ old.items
+  pub broken_is : new.broken ≡ true
   pub origin : new.origin ≡ old.origin
   pub limits : new.limits ≡ old.limits
 
@@ -91,11 +100,11 @@ pub record Refuses {D O : Type 0} (old new : View D O) (why : Type 0) : Type 0 w
 
 -- Each answer, with its cause and what it makes of the desk. Want of memory comes behind the other refusals.
 abbrev pub AddAnswers : {D O : Type 0} → View D O → View D O → Order → ℕ → Result Taken DeskFault → Type 0
-AddAnswers old new order at (Ok (New id)) = (id.0 ≡ old.items.next) × Adds old new order at false
+AddAnswers old new order at (Ok (New id)) = (id.0 ≡ old.items.next) × Adds old new order at
 AddAnswers old new order at (Ok (Same id)) = Refuses old new (IsKnown old.items.items order id)
 AddAnswers old new order at (Err (faults.WordTaken id)) = Refuses old new (IsOther old.items.items order id)
 AddAnswers old new order at (Err (faults.ItemsFull count)) = Refuses old new (IsFreeWord order.word old.items.items × (IsFull old.items × (count ≡ length old.items.items)))
-AddAnswers old new order at (Err (faults.Journal kind)) = Adds old new order at true
+AddAnswers old new order at (Err (faults.Journal kind)) = Breaks old new order
 AddAnswers old new order at (Err faults.Broken) = (old.broken ≡ true) × (new ≡ old)
 AddAnswers old new order at (Err faults.NoMemory) = Refuses old new (IsNew old.items order)
 AddAnswers old new order at (Err (faults.NoItem id)) = ⊥

@@ -1,5 +1,7 @@
 pub mod Add
 pub mod Bodies
+pub mod Changing
+pub mod Due
 pub mod Faults
 pub mod Opened
 pub mod Opening

@@ -4,7 +4,7 @@ use Rattle.dm_types.specs.declared.entry.Entry.{Entry}
 use Rattle.dm_types.specs.declared.entry.Entry.TheVariants.{Reopened}
 use Rattle.dm_disk_model.specs.declared.place.Place.{Place}
 use Rattle.dm_disk_model.specs.Disk.{DiskState, Image, History as Clock, MayLeave, bytes_at, now}
-use Rattle.dm_item.specs.Lawful.{History, next_id_of}
+use Rattle.dm_item.specs.Lawful.{History, IsOf, next_id_of}
 use Rattle.dm_item.specs.Listing.{Listing}
 use Rattle.dm_journal.specs.AtRest.{journal_place}
 use Rattle.dm_journal.specs.Starting.{WasLeft}
@@ -123,3 +123,7 @@ pub record ReopenFails (start end : Clock) (limit at : ℕ) (fault : DeskFault) 
   pub is : JournalFault
   pub same : fault ≡ reopen_fault is
   pub fails : Fails start end limit at is
+
+-- the list of a desk whose reopening was refused: as it was, or what the journal held as it read at the start
+abbrev pub ReopenKeeps : Clock → ℕ → Listing → Listing → Type 0
+ReopenKeeps start limit old new = (new ≡ old) ⊎ IsFound start limit (λ history. IsOf history new)

@@ -3,17 +3,12 @@ use Rattle.std.specs.Prelude.{◌≡◌, ℕ, Bool, true, false, [], ◌∷◌, 
 use Rattle.dm_types.specs.declared.entry.Entry.{Entry}
 use Rattle.dm_disk_model.specs.Disk.{History as Clock, now}
 use Rattle.dm_item.specs.Lawful.{History, IsOf}
-use Rattle.dm_item.specs.Listing.{Listing, HasRoomFor, Meets, applied}
+use Rattle.dm_item.specs.Listing.{Listing, applied}
 use Rattle.dm_kept.specs.Keeping.{Does}
 use Rattle.dm_kept.specs.Recovery.{Sits}
 use Rattle.dm_desk.specs.View.{HoldsOf, View}
 use Rattle.dm_desk.specs.declared.fault.Unrecorded.{Unrecorded}
 use Rattle.dm_desk.specs.declared.fault.Unrecorded.TheVariants.{NoMemory, Journal}
-
--- the list takes the entry, if there is memory
-pub record MayTake (items : Listing) (entry : Entry) : Type 0 where
-  pub room : HasRoomFor items entry
-  pub meets : Meets items entry
 
 -- the entries that were tried
 abbrev pub tried_by : Result (Unit {0}) Unrecorded → Entry → History
@@ -31,13 +26,13 @@ abbrev pub RecordDoes : Clock → Clock → ℕ → Listing → History → Entr
 RecordDoes start end gate items history entry result =
     Does start end history (λ more. more ≡ tried_by result entry) (λ whole. OnOk result (Stays whole gate items end))
 
--- what recording makes of the list: where memory is wanting nothing, and else what the entry says
+-- what recording makes of the list: what the entry says, and nothing where it isn't recorded
 abbrev pub RecordMakes : {D : Type 0} → D → D → ℕ → ℕ → Listing → Listing → Entry → Result (Unit {0}) Unrecorded → Type 0
 RecordMakes disk disk' gate gate' items items' entry (Ok done) = items' ≡ applied entry items
 RecordMakes disk disk' gate gate' items items' entry (Err NoMemory) = (disk' ≡ disk) × ((gate' ≡ gate) × (items' ≡ items))
-RecordMakes disk disk' gate gate' items items' entry (Err (Journal kind)) = items' ≡ applied entry items
+RecordMakes disk disk' gate gate' items items' entry (Err (Journal kind)) = items' ≡ items
 
--- The same of a desk: where the journal fails it is broken, and its list has the entry.
+-- The same of a desk: where the journal fails it is broken, and its list is as it was.
 pub record Keeps {D O : Type 0} (old new : View D O) (items : Listing) (broken : Bool) : Type 0 where
   pub items_are : new.items ≡ items
   pub broken_is : new.broken ≡ broken
@@ -47,7 +42,7 @@ pub record Keeps {D O : Type 0} (old new : View D O) (items : Listing) (broken :
 abbrev pub DeskMakes : {D O : Type 0} → View D O → View D O → Entry → Result (Unit {0}) Unrecorded → Type 0
 DeskMakes old new entry (Ok done) = Keeps old new (applied entry old.items) false
 DeskMakes old new entry (Err NoMemory) = new ≡ old
-DeskMakes old new entry (Err (Journal kind)) = Keeps old new (applied entry old.items) true
+DeskMakes old new entry (Err (Journal kind)) = Keeps old new old.items true
 
 abbrev pub DeskDoes : {D O : Type 0} → (D → Clock) → View D O → View D O → History → Entry → Result (Unit {0}) Unrecorded → Type 0
 DeskDoes clock old new history entry result =

@@ -5,16 +5,18 @@ ghost use Rattle.dm_disk_model.specs.Disk.{now};
 ghost use Rattle.dm_disk_model.specs.Moments.{KeepsFiles};
 
 use crate::adding::{Checked, added, check_order, let_go_order};
+use crate::changing::{Change, check_change, entry_of};
+use crate::due::first_due;
 use crate::fault::{DeskFault, OpenFault, Unrecorded};
 use crate::opening::{FoundList, open_list, reopen_fault, reopen_list};
 use crate::order::{Order, Taken};
 use crate::page::{IdList, ids_above};
-use crate::recording::{let_go, record};
+use crate::recording::{let_go, record, record_light};
 use dm_disk_model::Disk;
 use dm_edge::Origin;
 use dm_item::Items;
 use dm_journal::{Journal, JournalFault};
-use dm_types::{Entry, Item, ItemId, Limits, NoMemory};
+use dm_types::{By, Entry, Item, ItemId, Limits, Mode, NoMemory};
 use std::alloc::Global;
 use std::marker::Model;
 
@@ -55,16 +57,18 @@ impl<D: Disk, O: Origin> Model for Desk<D, O> {
 }
 
 impl<D: Disk, O: Origin> Desk<D, O> {
+    ghost use Rattle.dm_item.specs.Before.{adds_or_changes};
     ghost use Rattle.dm_item.specs.Listing.{item_in};
     ghost use Rattle.std.specs.Prelude.{List};
     ghost use Rattle.dm_item.specs.Lawful.{History};
     ghost use Rattle.dm_desk.specs.Add.{AddAnswers, AddDoes, IsNew, IsOrder};
     ghost use Rattle.dm_desk.specs.Faults.{desk_kind, open_kind, unrecorded_kind};
     ghost use Rattle.dm_desk.specs.Page.{page_of};
-    ghost use Rattle.dm_desk.specs.Recording.{DeskDoes, DeskMakes, MayTake};
-    ghost use Rattle.std.specs.Prelude.{IfErr, OnOk, is_err};
+    ghost use Rattle.dm_item.specs.Listing.{Admits};
+    ghost use Rattle.dm_desk.specs.Recording.{DeskDoes, DeskMakes};
+    ghost use Rattle.std.specs.Prelude.{IfErr, IsTrue, OnErr, OnOk, is_err};
     ghost use Rattle.dm_disk_model.specs.Moments.{LeavesOnly};
-    ghost use Rattle.dm_desk.specs.Opening.{Fails, IsOpened, IsReopenFault, OpenLeaves, ReopenFails, disk_in, fault_of};
+    ghost use Rattle.dm_desk.specs.Opening.{Fails, IsOpened, IsReopenFault, OpenLeaves, ReopenFails, ReopenKeeps, disk_in, fault_of};
     ghost use Rattle.dm_desk.specs.Opened.{IsMade, disk_of};
     ghost use Rattle.dm_desk.specs.View.{HoldsOf, IsLimits};
     ghost use Rattle.dm_record.specs.Limits.{IsSpellable};
@@ -117,6 +121,9 @@ impl<D: Disk, O: Origin> Desk<D, O> {
         ensures opened { D.tells → OnOk result (IsOpened (D.history self.old.disk) self.old.limits.items at (HoldsOf D.history self.new)) }
         ensures refused { D.tells → IfErr result (ReopenFails (D.history self.old.disk) (D.history self.new.disk) self.old.limits.items at) }
         ensures fault { IfErr result IsReopenFault }
+
+        // Where it is refused the list is as it was, or what the journal held.
+        ensures list { D.tells → OnErr result (ReopenKeeps (D.history self.old.disk) self.old.limits.items self.old.items self.new.items) }
         ensures broken { self.new.broken ≡ is_err result }
         ensures origin { self.new.origin ≡ self.old.origin }
         ensures limits { self.new.limits ≡ self.old.limits }
@@ -144,7 +151,7 @@ impl<D: Disk, O: Origin> Desk<D, O> {
 
     /// Adds an item, which waits. The answer comes once its entry is recorded. `at` is the moment in
     /// milliseconds since 1970. An order whose word an item has is not added again. After every fault
-    /// but `Journal` all is as before; after that one the desk is broken, and its list shows the item.
+    /// but `Journal` all is as before; after that one the desk is broken, and its list is as before.
     pub fn add(&mut self, order: Order, at: u64) -> Result<Taken, DeskFault>
         requires { IsOrder order }
         ensures answers { AddAnswers self.old self.new order at result }
@@ -196,11 +203,13 @@ impl<D: Disk, O: Origin> Desk<D, O> {
         }
     }
 
-    /// Records an entry that the list takes. Where the journal fails the desk is broken.
+    /// Records an entry that the list takes. Where the journal fails the desk is broken, and its list
+    /// is as it was.
     fn record(&mut self, entry: &Entry) -> Result<(), Unrecorded>
         requires whole { self.old.broken ≡ false }
         requires spelled { IsSpellable entry.now }
-        requires taken { MayTake self.old.items entry.now }
+        requires taken { Admits self.old.items entry.now }
+        requires one_item { IsTrue (adds_or_changes entry.now) }
         ensures does { D.tells → (history : History) → HoldsOf D.history self.old history → DeskDoes D.history self.old self.new history entry.now result }
         ensures makes { DeskMakes self.old self.new entry.now result }
         ensures beside { D.tells → KeepsFiles (D.history self.old.disk) (D.history self.new.disk) }
@@ -256,5 +265,167 @@ impl<D: Disk, O: Origin> Desk<D, O> {
     {
         let Desk { disk, .. } = self;
         disk
+    }
+}
+
+// The calls that change an item by one entry, which wants no memory in the list.
+impl<D: Disk, O: Origin> Desk<D, O> {
+    ghost use Rattle.dm_item.specs.Lawful.{History};
+    ghost use Rattle.dm_item.specs.Listing.{Admits, is_light, item_in};
+    ghost use Rattle.dm_item.specs.Row.{is_cancelled, is_paused, mode_of_item};
+    ghost use Rattle.std.specs.Prelude.{IsTrue, option_map};
+    ghost use Rattle.dm_types.specs.declared.entry.Entry.TheVariants as entries;
+    ghost use Rattle.dm_desk.specs.Changing.{ChangeAnswers, ChangeDoes, IsDue, entry_of, in_no_phase, is_under_way, leaves};
+    ghost use Rattle.dm_desk.specs.Due.{first_due};
+    ghost use Rattle.dm_desk.specs.Faults.{desk_kind, unrecorded_kind};
+    ghost use Rattle.dm_desk.specs.Recording.{DeskDoes, DeskMakes};
+    ghost use Rattle.dm_desk.specs.View.{HoldsOf};
+    ghost use Rattle.dm_record.specs.Limits.{IsSpellable};
+
+    /// Pauses an item. A paused one stays as it is; one that is being finished, complete or cancelled is
+    /// in the wrong state.
+    pub fn pause(&mut self, id: ItemId) -> Result<(), DeskFault>
+        ensures answers { ChangeAnswers is_paused (entries.Paused id) id self.old self.new result }
+
+        // From the history that the journal holds: what a crash at each moment leaves, and what the desk holds then.
+        ensures does { D.tells → (history : History) → HoldsOf D.history self.old history → ChangeDoes D.history is_paused (entries.Paused id) id self.old self.new result history }
+        ensures beside { D.tells → KeepsFiles (D.history self.old.disk) (D.history self.new.disk) }
+        ensures cause { HasCause desk_kind (D.faults self.old.disk) (D.faults self.new.disk) result }
+    {
+        self.change(Change::Pause, id)
+    }
+
+    /// Lets an item wait for an attempt by the user. One that waits or runs stays as it is; only a paused
+    /// or interrupted one whose mode isn't invalid may be asked for.
+    pub fn resume(&mut self, id: ItemId) -> Result<(), DeskFault>
+        ensures answers { ChangeAnswers is_under_way (entries.Asked id) id self.old self.new result }
+
+        // From the history that the journal holds: what a crash at each moment leaves, and what the desk holds then.
+        ensures does { D.tells → (history : History) → HoldsOf D.history self.old history → ChangeDoes D.history is_under_way (entries.Asked id) id self.old self.new result history }
+        ensures beside { D.tells → KeepsFiles (D.history self.old.disk) (D.history self.new.disk) }
+        ensures cause { HasCause desk_kind (D.faults self.old.disk) (D.faults self.new.disk) result }
+    {
+        self.change(Change::Resume, id)
+    }
+
+    /// Cancels an item. A cancelled one stays as it is; one that is being finished or complete is in the
+    /// wrong state.
+    pub fn cancel(&mut self, id: ItemId) -> Result<(), DeskFault>
+        ensures answers { ChangeAnswers is_cancelled (entries.Cancelled id) id self.old self.new result }
+
+        // From the history that the journal holds: what a crash at each moment leaves, and what the desk holds then.
+        ensures does { D.tells → (history : History) → HoldsOf D.history self.old history → ChangeDoes D.history is_cancelled (entries.Cancelled id) id self.old self.new result history }
+        ensures beside { D.tells → KeepsFiles (D.history self.old.disk) (D.history self.new.disk) }
+        ensures cause { HasCause desk_kind (D.faults self.old.disk) (D.faults self.new.disk) result }
+    {
+        self.change(Change::Cancel, id)
+    }
+
+    /// Takes an item from the list, unless it runs or is being finished.
+    pub fn remove(&mut self, id: ItemId) -> Result<(), DeskFault>
+        ensures answers { ChangeAnswers in_no_phase (entries.Removed id) id self.old self.new result }
+
+        // From the history that the journal holds: what a crash at each moment leaves, and what the desk holds then.
+        ensures does { D.tells → (history : History) → HoldsOf D.history self.old history → ChangeDoes D.history in_no_phase (entries.Removed id) id self.old self.new result history }
+        ensures beside { D.tells → KeepsFiles (D.history self.old.disk) (D.history self.new.disk) }
+        ensures cause { HasCause desk_kind (D.faults self.old.disk) (D.faults self.new.disk) result }
+    {
+        self.change(Change::Remove, id)
+    }
+
+    /// Takes a complete or cancelled item from the list, once its row is kept elsewhere.
+    pub fn archived(&mut self, id: ItemId) -> Result<(), DeskFault>
+        ensures answers { ChangeAnswers in_no_phase (entries.Archived id) id self.old self.new result }
+
+        // From the history that the journal holds: what a crash at each moment leaves, and what the desk holds then.
+        ensures does { D.tells → (history : History) → HoldsOf D.history self.old history → ChangeDoes D.history in_no_phase (entries.Archived id) id self.old self.new result history }
+        ensures beside { D.tells → KeepsFiles (D.history self.old.disk) (D.history self.new.disk) }
+        ensures cause { HasCause desk_kind (D.faults self.old.disk) (D.faults self.new.disk) result }
+    {
+        self.change(Change::Archive, id)
+    }
+
+    /// Makes one change, where it is still to be made.
+    fn change(&mut self, change: Change, id: ItemId) -> Result<(), DeskFault>
+        ensures answers { ChangeAnswers (leaves change) (entry_of change id) id self.old self.new result }
+        ensures does { D.tells → (history : History) → HoldsOf D.history self.old history → ChangeDoes D.history (leaves change) (entry_of change id) id self.old self.new result history }
+        ensures beside { D.tells → KeepsFiles (D.history self.old.disk) (D.history self.new.disk) }
+        ensures cause { HasCause desk_kind (D.faults self.old.disk) (D.faults self.new.disk) result }
+    {
+        let broken = self.broken;
+        if broken {
+            return Err(DeskFault::Broken);
+        }
+        match check_change(&self.items, change, id) {
+            Ok(due) => {
+                if due {
+                    self.record_change(change, id)
+                } else {
+                    Ok(())
+                }
+            }
+            Err(fault) => Err(fault),
+        }
+    }
+
+    /// Records the entry of a change that is due.
+    fn record_change(&mut self, change: Change, id: ItemId) -> Result<(), DeskFault>
+        requires whole { self.old.broken ≡ false }
+        requires due { IsDue (leaves change) (entry_of change id) id self.old.items }
+        ensures answers { ChangeAnswers (leaves change) (entry_of change id) id self.old self.new result }
+        ensures does { D.tells → (history : History) → HoldsOf D.history self.old history → ChangeDoes D.history (leaves change) (entry_of change id) id self.old self.new result history }
+        ensures beside { D.tells → KeepsFiles (D.history self.old.disk) (D.history self.new.disk) }
+        ensures cause { HasCause desk_kind (D.faults self.old.disk) (D.faults self.new.disk) result }
+    {
+        let entry = entry_of(change, id);
+        let recorded = self.record_light(&entry);
+        let_go(entry);
+        match recorded {
+            Ok(()) => Ok(()),
+            Err(Unrecorded::NoMemory) => Err(DeskFault::NoMemory),
+            Err(Unrecorded::Journal(kind)) => Err(DeskFault::Journal(kind)),
+        }
+    }
+
+    /// Records an entry that the list takes without memory. Where the journal fails the desk is broken.
+    fn record_light(&mut self, entry: &Entry) -> Result<(), Unrecorded>
+        requires whole { self.old.broken ≡ false }
+        requires light { IsTrue (is_light entry.now) }
+        requires spelled { IsSpellable entry.now }
+        requires taken { Admits self.old.items entry.now }
+        ensures does { D.tells → (history : History) → HoldsOf D.history self.old history → DeskDoes D.history self.old self.new history entry.now result }
+        ensures makes { DeskMakes self.old self.new entry.now result }
+        ensures beside { D.tells → KeepsFiles (D.history self.old.disk) (D.history self.new.disk) }
+        ensures cause { HasCause unrecorded_kind (D.faults self.old.disk) (D.faults self.new.disk) result }
+    {
+        match record_light(
+            self.alloc,
+            &mut self.disk,
+            &mut self.journal,
+            &mut self.items,
+            entry,
+        ) {
+            Ok(()) => Ok(()),
+            Err(Unrecorded::NoMemory) => Err(Unrecorded::NoMemory),
+            Err(Unrecorded::Journal(kind)) => {
+                self.broken = true;
+                Err(Unrecorded::Journal(kind))
+            }
+        }
+    }
+
+    /// How the item with an id may go on.
+    pub fn mode(&self, id: ItemId) -> Option<Mode>
+        ensures { result ≡ option_map mode_of_item (item_in id.0 self.now.items.items) }
+    {
+        self.items.mode(id)
+    }
+
+    /// The least id of an item that is due for an attempt, and by whom: one that waits, by the user, or
+    /// one that was interrupted and goes on at once, by itself.
+    pub fn due(&self) -> Option<(ItemId, By)>
+        ensures { result ≡ first_due self.now.items.items }
+    {
+        first_due(self.items.items())
     }
 }

@@ -5,8 +5,11 @@
 
 mod adding;
 mod bodies;
+mod changing;
 mod desk;
+mod due;
 mod fault;
+mod laws;
 mod opening;
 mod order;
 mod page;
@@ -14,5 +17,6 @@ mod recording;
 
 pub use desk::Desk;
 pub use fault::{DeskFault, OpenFault};
+pub use laws::one_answer;
 pub use order::{Order, Taken};
 pub use page::IdList;

@@ -1,4 +1,4 @@
-ghost use Rattle.std.specs.Prelude.{◌≡◌, ◌≤◌, ℕ, [], length, IfOk, IfErr, OnOk};
+ghost use Rattle.std.specs.Prelude.{◌≡◌, ◌≤◌, ℕ, [], length, IfOk, IfErr, OnErr, OnOk};
 ghost use Rattle.dm_types.specs.Faults.{HasCause};
 ghost use Rattle.dm_disk_model.specs.Disk.{now, Stands};
 ghost use Rattle.dm_disk_model.specs.Names.{NeverStands};
@@ -12,12 +12,12 @@ ghost use Rattle.dm_journal.specs.Text.{front};
 ghost use Rattle.dm_kept.specs.Room.{most_items};
 ghost use Rattle.dm_desk.specs.Bodies.{IsListOf, ListFails, text_fault};
 ghost use Rattle.dm_desk.specs.Faults.{unrecorded_kind};
-ghost use Rattle.dm_desk.specs.Opening.{Fails, IsFound, IsOpened, OpenLeaves, reopen_fault, reopened_by, unrecorded_fault};
+ghost use Rattle.dm_desk.specs.Opening.{Fails, IsFound, IsOpened, OpenLeaves, ReopenKeeps, reopen_fault, reopened_by, unrecorded_fault};
 ghost use Rattle.dm_desk.specs.Recording.{RecordDoes, Stays};
 
 use crate::bodies::take_bodies;
 use crate::fault::{DeskFault, Unrecorded};
-use crate::recording::{let_go, record};
+use crate::recording::{let_go, record_light};
 use dm_disk_model::Disk;
 use dm_item::Items;
 use dm_journal::{Bodies, Journal, JournalFault, TextFault};
@@ -146,6 +146,7 @@ pub(crate) fn record_reopened<D: Disk>(
     requires stands { D.tells → Stands (now (D.history disk.old)) journal_place }
     ensures does { D.tells → (history : History) → Stays history journal.old items.old (D.history disk.old)
         → RecordDoes (D.history disk.old) (D.history disk.new) journal.new items.new history (reopened_by items.old at) result }
+    ensures same { OnErr result (items.new ≡ items.old) }
     ensures limit { items.new.limit ≡ items.old.limit }
     ensures beside { D.tells → KeepsFiles (D.history disk.old) (D.history disk.new) }
     ensures cause { HasCause unrecorded_kind (D.faults disk.old) (D.faults disk.new) result }
@@ -154,7 +155,7 @@ pub(crate) fn record_reopened<D: Disk>(
         next: items.next(),
         at,
     };
-    let result = record(alloc, disk, journal, items, &entry);
+    let result = record_light(alloc, disk, journal, items, &entry);
     let_go(entry);
     result
 }
@@ -223,7 +224,7 @@ fn put_list(list: FoundList, journal: &mut Journal, items: &mut Items)
 }
 
 /// Finds the list anew, and records that it was opened. Once the list was found it stands in the place
-/// of the old one, also where its entry isn't recorded.
+/// of the old one; where its entry isn't recorded it is without that entry.
 pub(crate) fn reopen_list<D: Disk>(
     alloc: Global,
     disk: &mut D,
@@ -237,6 +238,7 @@ pub(crate) fn reopen_list<D: Disk>(
     ensures moments { D.tells → LeavesOnly (D.history disk.old) (D.history disk.new) (OpenLeaves (now (D.history disk.old)) at) }
     ensures opened { D.tells → OnOk result (IsOpened (D.history disk.old) limit at (λ history. Stays history journal.new items.new (D.history disk.new))) }
     ensures refused { D.tells → IfErr result (Fails (D.history disk.old) (D.history disk.new) limit at) }
+    ensures list { D.tells → OnErr result (ReopenKeeps (D.history disk.old) limit items.old items.new) }
     ensures limit { items.new.limit ≡ limit }
     ensures beside { D.tells → KeepsFiles (D.history disk.old) (D.history disk.new) }
     ensures cause { HasCause journal_kind (D.faults disk.old) (D.faults disk.new) result }

@@ -171,3 +171,37 @@ fn a_failed_journal_breaks_the_desk_until_it_is_reopened(rt: HostRuntime) -> Res
     assert_eq!(rt; taken, Ok(Taken::New(ItemId(1))));
     Ok(())
 }
+
+#[test]
+fn a_broken_desk_lists_what_was_recorded(rt: HostRuntime) -> Result<(), Fail> {
+    let alloc = rt.alloc();
+    let mut desk = broken(alloc)?;
+    assert!(rt; lists(&desk, &[])?);
+    assert_eq!(rt; desk.reopen(0), Ok(()));
+    let taken = add(alloc, &mut desk, b"w1", b"http://h/a");
+    assert_eq!(rt; taken, Ok(Taken::New(ItemId(1))));
+    assert!(rt; lists(&desk, &[ItemId(1)])?);
+    Ok(())
+}
+
+/// A desk to which one address was added so many times under no word, and the last answer.
+fn filled(alloc: Global, count: u32) -> Result<(MemoryDesk, Result<Taken, DeskFault>), Fail> {
+    let Ok(mut desk) = open(alloc, disk(alloc, None, None)?) else {
+        return Err("not opened".into());
+    };
+    let mut last = Err(DeskFault::NoMemory);
+    for _ in 0..count {
+        last = add(alloc, &mut desk, b"", b"http://h/a");
+    }
+    Ok((desk, last))
+}
+
+#[test]
+fn a_desk_takes_4096_items(rt: HostRuntime) -> Result<(), Fail> {
+    let alloc = rt.alloc();
+    let (mut desk, last) = filled(alloc, 4096)?;
+    assert_eq!(rt; last, Ok(Taken::New(ItemId(4096))));
+    let full = add(alloc, &mut desk, b"", b"http://h/a");
+    assert_eq!(rt; full, Err(DeskFault::ItemsFull(4096)));
+    Ok(())
+}

@@ -7,3 +7,4 @@ pub mod Histories
 pub mod Sounds
 pub mod Shorts
 pub mod Lasting
+pub mod Undoing

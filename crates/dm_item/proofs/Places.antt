@@ -13,7 +13,7 @@ use Rattle.dm_item.specs.declared.fault.ApplyFault.{ApplyFault}
 use Rattle.dm_item.specs.declared.fault.ApplyFault.TheVariants.{NoItem, WrongPhase, Full, Unlawful, NoMemory}
 use Rattle.dm_item.specs.Fields.{is_gone}
 use Rattle.dm_item.specs.Row.{Further, allows, changed, name_of}
-use Rattle.dm_item.specs.Listing.{NamedDeclines, NamedTakes, RowAt, Row, RowDeclines, changed_at, item_in, item_named, items_after, place_in, without}
+use Rattle.dm_item.specs.Listing.{IsRowAt, NamedDeclines, NamedTakes, RowAt, Row, RowDeclines, changed_at, item_in, item_named, items_after, place_in, without}
 
 abbrev has : ℕ → Item → Bool
 has id item = item.id.0 == id
@@ -83,3 +83,14 @@ takes_at e items new id place item is at read phase further value =
       row = rw (is, first.found) (phase, further);
       value = value ∙ rw (is, first.written e, first.removed) refl;
     }
+
+-- the row at a place is the one of the item that the entry names
+pub row_met : (e : Entry) (items : List Item) (place : ℕ) → IsRowAt e items place → RowAt e items (name_of e)
+row_met e items place row =
+    let first : FirstAt row.id.0 items place row.item = subst (FirstAt row.id.0 items place) (sym row.is) (place_first row.id.0 items place row.item row.at) in
+    rw (row.named, first.found) (row.phase, row.further)
+
+pub takes_row : (e : Entry) (items new : List Item) (place : ℕ) (row : IsRowAt e items place) → new ≡ (if is_gone e then remove items place else set items place (changed e (get_or items place row.item))) → NamedTakes e items new
+takes_row e items new place row value =
+    takes_at e items new row.id place row.item row.named row.at row.is row.phase row.further
+    (value ∙ ap (λ (i : Item). if is_gone e then remove items place else set items place (changed e i)) (sym row.is))

@@ -1,3 +1,4 @@
+pub mod Before
 pub mod History
 pub mod Fields
 pub mod Row

@@ -1,5 +1,5 @@
 -- The list of items as it is kept, and what one entry makes of it.
-use Rattle.std.specs.Prelude.{◌≡◌, ◌≢◌, ℕ, ◌+◌, ◌≤◌, ◌<◌, ◌^◌, Bool, true, false, ◌==◌, cond, ◌⊎◌, ◌↔◌, List, [], ◌∷◌, ◌++◌, map, length, Option, Some, None, is_some, IsSome, ◌||◌, IsSomeAnd, IfSome, IsTrue, option_and_then, find, position}
+use Rattle.std.specs.Prelude.{◌≡◌, ◌≢◌, ℕ, ◌+◌, ◌≤◌, ◌<◌, ◌^◌, Bool, true, false, ◌==◌, cond, ◌⊎◌, ◌↔◌, List, [], ◌∷◌, ◌++◌, map, length, Option, Some, None, is_some, IsSome, ◌||◌, IsSomeAnd, IfSome, IsTrue, option_and_then, find, position, get_or}
 use Rattle.dm_types.specs.declared.item.Item.{Item}
 use Rattle.dm_types.specs.declared.item.ItemId.{ItemId}
 use Rattle.dm_types.specs.declared.item.Key.{Key}
@@ -169,6 +169,11 @@ abbrev pub HasRoomFor : Listing → Entry → Type 0
 HasRoomFor v (entries.Added id word address wish digest at) = HasRoom v
 HasRoomFor v _ = Unit {0}
 
+-- the list takes the entry, if there is memory
+pub record Admits (v : Listing) (e : Entry) : Type 0 where
+  pub room : HasRoomFor v e
+  pub meets : Meets v e
+
 -- the list with the item of an id as an entry leaves it
 abbrev pub changed_at : Entry → ℕ → List Item → List Item
 changed_at e id [] = []
@@ -197,6 +202,24 @@ pub record Takes (e : Entry) (old new : Listing) : Type 0 where
 abbrev pub is_broke : Entry → Bool
 is_broke (entries.Broke id reason) = true
 is_broke _ = false
+
+-- an entry whose effect on the list wants no memory
+abbrev pub is_light : Entry → Bool
+is_light (entries.Added id word address wish digest at) = false
+is_light (entries.Began id attempt by at) = true
+is_light (entries.Described id key last_address total name modified) = false
+is_light (entries.Progress id slices) = false
+is_light (entries.Broke id reason) = true
+is_light (entries.Paused id) = true
+is_light (entries.Cancelled id) = true
+is_light (entries.Restarted id epoch because) = false
+is_light (entries.Finishing id total) = true
+is_light (entries.Done id digest at) = true
+is_light (entries.Removed id) = true
+is_light (entries.Archived id) = true
+is_light (entries.Reopened next at) = true
+is_light (entries.Restored item) = false
+is_light (entries.Asked id) = true
 
 -- the item that the entry names
 abbrev pub item_named : Entry → List Item → Option Item
@@ -248,6 +271,16 @@ Declines v (entries.Added id word address wish digest at) fault = AddedDeclines 
 Declines v (entries.Reopened next at) fault = ReopenedDeclines v next fault
 Declines v (entries.Restored item) fault = RestoredDeclines v item fault
 Declines v e fault = NamedDeclines e v.items fault
+
+-- the entry names the item at this place, and its row takes the entry
+pub record IsRowAt (e : Entry) (items : List Item) (place : ℕ) : Type 0 where
+  pub id : ItemId
+  pub item : Item
+  pub named : name_of e ≡ Some id
+  pub at : place_in id.0 items ≡ Some place
+  pub is : item ≡ get_or items place item
+  pub phase : IsTrue (allows e item.phase)
+  pub further : Further e items item
 
 -- an entry that names an item is taken
 pub record NamedTakes (e : Entry) (old new : List Item) : Type 0 where

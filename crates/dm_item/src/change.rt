@@ -1,7 +1,7 @@
 ghost use Rattle.std.specs.Prelude.{◌≡◌, ◌<◌, ◌^◌, IsTrue, IsOk, IfOk, OnOk, OnErr, Some, map};
 ghost use Rattle.dm_item.specs.Fields.{added_item};
 ghost use Rattle.dm_item.specs.Row.{FitsAutos, autos_after, begun_item, changed, described_item, restarted_item, stopped_item};
-ghost use Rattle.dm_item.specs.Listing.{is_broke};
+ghost use Rattle.dm_item.specs.Listing.{is_broke, is_light};
 
 use crate::copies::{copy_key, copy_slices, no_bytes};
 use dm_types::{
@@ -15,6 +15,7 @@ pub(crate) fn change(alloc: Global, entry: &Entry, item: &mut Item) -> Result<()
     ensures ok { OnOk result (item.new ≡ changed entry.now item.old) }
     ensures err { OnErr result (item.new ≡ item.old) }
     ensures broke { IsTrue (is_broke entry.now) → IsOk result }
+    ensures light { IsTrue (is_light entry.now) → IsOk result }
 {
     match entry {
         Entry::Began { attempt, by, .. } => Ok(begin(item, *attempt, *by)),

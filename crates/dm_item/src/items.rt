@@ -1,14 +1,15 @@
-ghost use Rattle.std.specs.Prelude.{◌≡◌, ◌↔◌, ◌+◌, ◌≤◌, ◌⊎◌, ◌++◌, ◌∷◌, [], cond, false, IsTrue, IsSome, IfSome, IfNone, IfOk, IfErr, OnOk, OnErr, length, map, option_map};
+ghost use Rattle.std.specs.Prelude.{◌≡◌, ◌≢◌, ◌↔◌, ◌+◌, ◌≤◌, ◌⊎◌, ◌++◌, ◌∷◌, [], cond, false, IsTrue, IsSome, IfSome, IfNone, IfOk, IfErr, OnOk, OnErr, length, map, option_map};
 ghost use Rattle.std.specs.Option.{option_copied};
 ghost use Rattle.dm_item.specs.Listing.{HasNoWord, IsWordOf};
 
 use crate::ApplyFault;
+use crate::before::{Before, copy_found, put_back};
 use crate::change::make_item;
 use crate::copies::copy_item;
 use crate::names::is_free_word;
 use crate::restored::is_restorable;
-use crate::rows::mode_of_item;
-use crate::take::{add_restored, change_named, push_item, stop_every};
+use crate::rows::{mode_of_item, name_of};
+use crate::take::{add_restored, change_named, find_row, push_item, stop_every};
 use dm_types::{Entry, Item, ItemId, Listed, Mode, NoMemory, Text};
 use std::alloc::Global;
 use std::marker::Model;
@@ -47,10 +48,12 @@ impl Model for Items {
 }
 
 impl Items {
+    ghost use Rattle.dm_item.specs.Before.{HasTaken, IsBefore};
     ghost use Rattle.dm_item.specs.Fields.{added_item};
     ghost use Rattle.dm_item.specs.Row.{mode_of_item, name_of, stopped_item};
     ghost use Rattle.dm_item.specs.Lawful.{History, IsOf, IsShort, KeepsHistory, TookSome, short_history};
-    ghost use Rattle.dm_item.specs.Listing.{AddedDeclines, Declines, HasRoom, HasWordOf, IsFreeWord, IsRestorable, NamedDeclines, ReopenedDeclines, RestoredDeclines, RowAt, Takes, empty_list, item_in, items_after};
+    ghost use Rattle.dm_item.specs.Listing.{AddedDeclines, Admits, Declines, HasRoom, HasWordOf, IsFreeWord, IsRestorable, NamedDeclines, ReopenedDeclines, RestoredDeclines, RowAt, Takes, empty_list, is_light, item_in, item_named, items_after};
+    ghost use Rattle.dm_item.specs.declared.fault.ApplyFault.TheVariants as faults;
 
     /// An empty list that takes on at most `limit` items.
     pub fn new(alloc: Global, limit: u32) -> Result<Items, NoMemory>
@@ -97,11 +100,37 @@ impl Items {
         self.items.len() as u32
     }
 
+    /// Whether the list takes an entry. It changes nothing and takes no memory.
+    pub fn admits(&self, entry: &Entry) -> Result<(), ApplyFault>
+        ensures ok { OnOk result (Admits self.now entry.now) }
+        ensures err { IfErr result (Declines self.now entry.now) }
+        ensures light { IfErr result (λ fault. fault ≢ faults.NoMemory) }
+    {
+        match entry {
+            Entry::Added { id, word, .. } => self.check_added(*id, word),
+            Entry::Reopened { next, .. } => self.check_reopened(*next),
+            Entry::Restored { item } => self.check_restored(item),
+            Entry::Began { .. } => self.check_named(entry),
+            Entry::Described { .. } => self.check_named(entry),
+            Entry::Progress { .. } => self.check_named(entry),
+            Entry::Broke { .. } => self.check_named(entry),
+            Entry::Paused { .. } => self.check_named(entry),
+            Entry::Cancelled { .. } => self.check_named(entry),
+            Entry::Restarted { .. } => self.check_named(entry),
+            Entry::Finishing { .. } => self.check_named(entry),
+            Entry::Done { .. } => self.check_named(entry),
+            Entry::Removed { .. } => self.check_named(entry),
+            Entry::Archived { .. } => self.check_named(entry),
+            Entry::Asked { .. } => self.check_named(entry),
+        }
+    }
+
     /// Takes an entry where it meets its row in the list, and does what it says. A refusal changes
-    /// nothing, and a `Broke` never wants memory.
+    /// nothing. Only an `Added`, `Described`, `Progress`, `Restarted` or `Restored` wants memory.
     pub fn apply(&mut self, entry: &Entry) -> Result<(), ApplyFault>
         ensures ok { OnOk result (Takes entry.now self.old self.new) }
         ensures err { IfErr result (Declines self.old entry.now) }
+        ensures light { IsTrue (is_light entry.now) → IfErr result (λ fault. fault ≢ faults.NoMemory) }
         ensures same { OnErr result (self.new ≡ self.old) }
     {
         match entry {
@@ -128,6 +157,42 @@ impl Items {
             Entry::Archived { .. } => self.take_named(entry),
             Entry::Asked { .. } => self.take_named(entry),
         }
+    }
+
+    /// What the list is now, as far as this entry will change it, for `take_back`.
+    pub fn before(&self, entry: &Entry) -> Result<Before, NoMemory>
+        ensures { IfOk result (IsBefore self.now entry.now) }
+    {
+        match copy_found(self.alloc, self.named(entry)) {
+            Ok(item) => Ok(Before {
+                next: self.next,
+                first: self.first,
+                early: self.early,
+                item,
+            }),
+            Err(NoMemory) => Err(NoMemory),
+        }
+    }
+
+    /// Takes back the entry that the list took last, where `before` was made of the list and of that
+    /// entry before. It takes no memory. An entry that took an item away, or opened the list, isn't
+    /// taken back.
+    pub fn take_back(&mut self, before: Before)
+        requires { HasTaken self.old before }
+
+        // The list is the older one, whatever list and entry that was.
+        ensures { (took : HasTaken self.old before) → self.new ≡ took.older }
+    {
+        let Before {
+            next,
+            first,
+            early,
+            item,
+        } = before;
+        put_back(&mut self.items, item);
+        self.next = next;
+        self.first = first;
+        self.early = early;
     }
 
     /// Takes entries one after another. The first that isn't taken ends it; those before it are taken.
@@ -161,6 +226,28 @@ impl Items {
         Ok(entries)
     }
 
+    /// The item that an entry names, where it names one that is there.
+    fn named(&self, entry: &Entry) -> Option<&Item>
+        ensures { option_copied result ≡ item_named entry.now self.now.items }
+    {
+        match name_of(entry) {
+            Some(id) => self.get(id),
+            None => None,
+        }
+    }
+
+    fn check_named(&self, entry: &Entry) -> Result<(), ApplyFault>
+        requires { IsSome (name_of entry.now) }
+        ensures ok { OnOk result (RowAt entry.now self.now.items (name_of entry.now)) }
+        ensures err { IfErr result (NamedDeclines entry.now self.now.items) }
+        ensures light { IfErr result (λ fault. fault ≢ faults.NoMemory) }
+    {
+        match find_row(entry, &self.items) {
+            Ok(_) => Ok(()),
+            Err(fault) => Err(fault),
+        }
+    }
+
     fn take_named(&mut self, entry: &Entry) -> Result<(), ApplyFault>
         requires { IsSome (name_of entry.now) }
         ensures ok { OnOk result (RowAt entry.now self.old.items (name_of entry.now)) }
@@ -170,6 +257,7 @@ impl Items {
           items = items_after entry.now (name_of entry.now) self.old.items;
         }) }
         ensures err { IfErr result (NamedDeclines entry.now self.old.items) }
+        ensures light { IsTrue (is_light entry.now) → IfErr result (λ fault. fault ≢ faults.NoMemory) }
         ensures same { OnErr result (self.new ≡ self.old) }
     {
         match change_named(self.alloc, entry, &mut self.items) {
@@ -180,6 +268,22 @@ impl Items {
             }
             Err(fault) => Err(fault),
         }
+    }
+
+    fn check_added(&self, id: ItemId, word: &Text) -> Result<(), ApplyFault>
+        ensures room { OnOk result (HasRoom self.now) }
+        ensures ok { OnOk result ((id.0 ≡ self.now.next) × IsFreeWord word.now self.now.items) }
+        ensures err { IfErr result (AddedDeclines self.now id word.now) }
+        ensures light { IfErr result (λ fault. fault ≢ faults.NoMemory) }
+    {
+        let count = self.count();
+        if count >= self.limit || self.next == u32::MAX {
+            return Err(ApplyFault::Full(count));
+        }
+        if id.0 != self.next || !is_free_word(word.bytes(), &self.items) {
+            return Err(ApplyFault::Unlawful(1));
+        }
+        Ok(())
     }
 
     fn add(
@@ -203,12 +307,9 @@ impl Items {
         ensures err { IfErr result (AddedDeclines self.old id word.now) }
         ensures same { OnErr result (self.new ≡ self.old) }
     {
-        let count = self.count();
-        if count >= self.limit || self.next == u32::MAX {
-            return Err(ApplyFault::Full(count));
-        }
-        if id.0 != self.next || !is_free_word(word.bytes(), &self.items) {
-            return Err(ApplyFault::Unlawful(1));
+        match self.check_added(id, word) {
+            Ok(()) => {}
+            Err(fault) => return Err(fault),
         }
         let Ok(item) = make_item(self.alloc, id, word, address, wish, digest, at) else {
             return Err(ApplyFault::NoMemory);
@@ -222,6 +323,18 @@ impl Items {
         Ok(())
     }
 
+    fn check_reopened(&self, next: u32) -> Result<(), ApplyFault>
+        ensures ok { OnOk result ((next ≡ self.now.next) ⊎ (IsTrue self.now.is_first × (1 ≤ next))) }
+        ensures err { IfErr result (ReopenedDeclines self.now next) }
+        ensures light { IfErr result (λ fault. fault ≢ faults.NoMemory) }
+    {
+        if may_reopen(self.first, self.next, next) {
+            Ok(())
+        } else {
+            Err(ApplyFault::Unlawful(13))
+        }
+    }
+
     fn reopen(&mut self, next: u32) -> Result<(), ApplyFault>
         ensures ok { OnOk result ((next ≡ self.old.next) ⊎ (IsTrue self.old.is_first × (1 ≤ next))) }
         ensures value { OnOk result (self.new ≡ record self.old {
@@ -230,15 +343,30 @@ impl Items {
           items = map stopped_item self.old.items;
         }) }
         ensures err { IfErr result (ReopenedDeclines self.old next) }
+        ensures light { IfErr result (λ fault. fault ≢ faults.NoMemory) }
         ensures same { OnErr result (self.new ≡ self.old) }
     {
-        if !may_reopen(self.first, self.next, next) {
-            return Err(ApplyFault::Unlawful(13));
+        match self.check_reopened(next) {
+            Ok(()) => {}
+            Err(fault) => return Err(fault),
         }
         self.next = next_after(self.first, self.next, next);
         stop_every(&mut self.items);
         self.first = false;
         Ok(())
+    }
+
+    fn check_restored(&self, item: &Item) -> Result<(), ApplyFault>
+        ensures ok { OnOk result (IsRestorable self.now.is_early self.now.next self.now.items
+            item.now) }
+        ensures err { IfErr result (RestoredDeclines self.now item.now) }
+        ensures light { IfErr result (λ fault. fault ≢ faults.NoMemory) }
+    {
+        if is_restorable(self.early, self.next, &self.items, item) {
+            Ok(())
+        } else {
+            Err(ApplyFault::Unlawful(14))
+        }
     }
 
     fn restore(&mut self, item: &Item) -> Result<(), ApplyFault>
@@ -251,8 +379,9 @@ impl Items {
         ensures err { IfErr result (RestoredDeclines self.old item.now) }
         ensures same { OnErr result (self.new ≡ self.old) }
     {
-        if !is_restorable(self.early, self.next, &self.items, item) {
-            return Err(ApplyFault::Unlawful(14));
+        match self.check_restored(item) {
+            Ok(()) => {}
+            Err(fault) => return Err(fault),
         }
         let Ok(copy) = copy_item(self.alloc, item) else {
             return Err(ApplyFault::NoMemory);

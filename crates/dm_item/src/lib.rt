@@ -1,6 +1,7 @@
 //! The items that a list of recorded entries leaves, and which entry may come next.
 #![tactic(auto)]
 
+mod before;
 mod change;
 mod conditions;
 mod copies;
@@ -12,6 +13,7 @@ mod restored;
 mod rows;
 mod take;
 
+pub use before::Before;
 pub use copies::copy_item;
 pub use fault::ApplyFault;
 pub use items::Items;

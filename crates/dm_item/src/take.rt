@@ -1,9 +1,10 @@
-ghost use Rattle.std.specs.Prelude.{◌≡◌, ◌<◌, ◌++◌, ◌∷◌, [], IsTrue, IsSome, IsOk, IfErr, OnOk, OnErr, if◌then◌else◌, vec_len, map, slice_index_or, slice_set, remove};
+ghost use Rattle.std.specs.Prelude.{◌≡◌, ◌≢◌, ◌<◌, ◌++◌, ◌∷◌, [], IsTrue, IsSome, IsOk, IfOk, IfErr, OnOk, OnErr, if◌then◌else◌, vec_len, length, map, slice_index_or, slice_set, remove};
 ghost use Rattle.dm_types.specs.declared.item.Item.{Item};
 ghost use Rattle.dm_types.specs.declared.entry.Entry.TheVariants.{Restored};
 ghost use Rattle.dm_item.specs.Fields.{is_gone};
 ghost use Rattle.dm_item.specs.Row.{FitsAutos, Further, allows, changed, name_of, stopped_item};
-ghost use Rattle.dm_item.specs.Listing.{NamedDeclines, NamedTakes, RowDeclines, is_broke, place_in};
+ghost use Rattle.dm_item.specs.Listing.{IsRowAt, NamedDeclines, NamedTakes, RowDeclines, is_broke, is_light, place_in};
+ghost use Rattle.dm_item.specs.declared.fault.ApplyFault.TheVariants as faults;
 
 use crate::ApplyFault;
 use crate::change::{change, stop_all};
@@ -22,7 +23,27 @@ pub(crate) fn change_named(
     requires { IsSome (name_of entry.now) }
     ensures ok { OnOk result (NamedTakes entry.now items.old.items items.new.items) }
     ensures err { IfErr result (NamedDeclines entry.now items.old.items) }
+    ensures light { IsTrue (is_light entry.now) → IfErr result (λ fault. fault ≢ faults.NoMemory) }
     ensures same { OnErr result (items.new.items ≡ items.old.items) }
+{
+    let place = match find_row(entry, items) {
+        Ok(place) => place,
+        Err(fault) => return Err(fault),
+    };
+    match change_in(alloc, entry, items, place) {
+        Ok(()) => Ok(()),
+        Err(NoMemory) => Err(ApplyFault::NoMemory),
+    }
+}
+
+/// The place of the item that an entry names, where its row takes the entry.
+pub(crate) fn find_row(entry: &Entry, items: &[Item]) -> Result<usize, ApplyFault>
+    requires { IsSome (name_of entry.now) }
+    ensures ok { IfOk result (IsRowAt entry.now items.now) }
+    ensures within { IfOk result (λ place. place < length items.now) }
+    ensures fits { IfOk result (λ place. (d : Item) → FitsAutos entry.now (slice_index_or items.now place d)) }
+    ensures err { IfErr result (NamedDeclines entry.now items.now) }
+    ensures light { IfErr result (λ fault. fault ≢ faults.NoMemory) }
 {
     let Some(id) = name_of(entry) else {
         unreachable!();
@@ -31,17 +52,13 @@ pub(crate) fn change_named(
         return Err(ApplyFault::NoItem(id));
     };
     match check_row(entry, items, &items[place]) {
-        Ok(()) => {}
-        Err(fault) => return Err(fault),
-    }
-    match change_in(alloc, entry, items, place) {
-        Ok(()) => Ok(()),
-        Err(NoMemory) => Err(ApplyFault::NoMemory),
+        Ok(()) => Ok(place),
+        Err(fault) => Err(fault),
     }
 }
 
 /// The first place of an item with this id.
-fn find_place(items: &[Item], id: ItemId) -> Option<usize>
+pub(crate) fn find_place(items: &[Item], id: ItemId) -> Option<usize>
     ensures { result ≡ place_in id.0 items.now }
 {
     items.iter().position(|item| item.id.0 == id.0)
@@ -52,6 +69,7 @@ fn check_row(entry: &Entry, items: &[Item], item: &Item) -> Result<(), ApplyFaul
     ensures phase { OnOk result (IsTrue (allows entry.now item.now.phase)) }
     ensures further { OnOk result (Further entry.now items.now item.now) }
     ensures err { IfErr result (RowDeclines entry.now items.now item.now) }
+    ensures light { IfErr result (λ fault. fault ≢ faults.NoMemory) }
 {
     if !may_come(entry, item.phase) {
         return Err(ApplyFault::WrongPhase(item.phase));
@@ -77,6 +95,7 @@ fn change_in(
         (changed entry.now (slice_index_or items.old.items place d)))) }
     ensures err { OnErr result (items.new.items ≡ items.old.items) }
     ensures broke { IsTrue (is_broke entry.now) → IsOk result }
+    ensures light { IsTrue (is_light entry.now) → IsOk result }
 {
     if is_gone(entry) {
         remove_item(items, place);

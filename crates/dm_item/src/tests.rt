@@ -1,3 +1,6 @@
+ghost use Rattle.std.specs.Prelude.{IsTrue};
+ghost use Rattle.dm_item.specs.Before.{adds_or_changes};
+
 use crate::*;
 use dm_types::{Attempt, By, Entry, Epoch, ItemId, Key, Mode, Phase, Reason, Slice, Slices, Text};
 use std::alloc::Global;
@@ -291,5 +294,27 @@ fn an_item_is_copied(rt: HostRuntime) -> Result<(), Fail> {
     assert!(rt; copy.word.is(b"w1"));
     assert!(rt; same_name(b"Hello", b"hELLO"));
     assert!(rt; !same_name(b"a", b"ab"));
+    Ok(())
+}
+
+/// A running list with 3 bytes of item 1, after an entry was taken and taken back.
+fn taken_back(rt: &impl Abort, alloc: Global, entry: &Entry) -> Items
+    requires { IsTrue (adds_or_changes entry.now) }
+{
+    let mut items = running(rt, alloc);
+    take(&mut items, progress(rt, alloc, 3, false)).expect(rt, "progress");
+    let before = items.before(entry).expect(rt, "memory");
+    items.apply(entry).expect(rt, "taken");
+    items.take_back(before);
+    items
+}
+
+#[test]
+fn an_entry_is_taken_back(rt: HostRuntime) -> Result<(), Fail> {
+    let items = taken_back(&rt, rt.alloc(), &Entry::Paused { id: ItemId(1) });
+    assert_eq!(rt; (items.next(), items.count()), (2, 1));
+    let item = items.get(ItemId(1)).ok_or("item 1")?;
+    assert_eq!(rt; item.phase, Phase::Running);
+    assert!(rt; item.slices.items() == slices(&rt, rt.alloc(), 3, false).items());
     Ok(())
 }

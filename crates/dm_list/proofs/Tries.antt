@@ -112,10 +112,10 @@ module _ {D O : Type 0} (tells : Type 0) (clock : D → Clock) (old new : View D
         record { moments = runs; leaves = at_end (clock old.disk) (clock new.disk) (Kept (Through history (added_by old.items order at ∷ []))) runs };
   }
 
-  new_line : (id : ItemId) (ending : ListEnding) → Adds old new order at false → AddEnds new.items.items (Ok (New id)) ending → Tells Said (item_line_of (item_of old.items order at)) ending
+  new_line : (id : ItemId) (ending : ListEnding) → Adds old new order at → AddEnds new.items.items (Ok (New id)) ending → Tells Said (item_line_of (item_of old.items order at)) ending
   new_line id ending adds ends = ends old.items.items (item_of old.items order at) (ap (λ (v : Listing). v.items) adds.items)
 
-  new_did : (id : ItemId) (ending : ListEnding) → Adds old new order at false → Tells Said (item_line_of (item_of old.items order at)) ending
+  new_did : (id : ItemId) (ending : ListEnding) → Adds old new order at → Tells Said (item_line_of (item_of old.items order at)) ending
       → (tells → (history : History) → HoldsOf clock old history → AddDoes clock old new order at (Ok (New id)) history) → AddDid tells clock old new order at ending
   new_did id ending adds (inl is) doing =
       subst (AddDid tells clock old new order at) (sym is)

@@ -28,3 +28,14 @@ returns-clause-does g c tells history stays =
     journal_failed start history c.args.journal.now c.args.items.now stays c.args.entry.now c.requires.few c.in-Ok.ensures.entry c.requires.taken end
     (subst (λ (body : List ℕ). LeavesOnly start end (WithOrWithout (bodies_of history) body)) is (c.append.ensures.any_moment tells (bodies_of history) stays.sits.journal))
     c.append.new.self c.apply.new.self c.in-Err.fault
+
+pub returns-clause-makes : goal.returns-clause-makes
+returns-clause-makes g c =
+    c.take_back.ensures
+    (record {
+      older = c.args.items.now;
+      entry = c.args.entry.now;
+      one_item = c.requires.one_item;
+      was = c.in-Ok-before.ensures;
+      takes = c.in-Ok-apply.ensures.ok;
+    })

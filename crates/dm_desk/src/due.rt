@@ -1,0 +1,51 @@
+ghost use Rattle.std.specs.Prelude.{◌≡◌, find};
+ghost use Rattle.std.specs.Option.{option_copied};
+ghost use Rattle.dm_desk.specs.Due.{due_by, first_due, is_due};
+
+use dm_item::mode_of_item;
+use dm_policy::is_immediate;
+use dm_types::{By, Item, ItemId, Phase};
+
+/// By whom an attempt of the item is due, where one is.
+fn due_by(item: &Item) -> Option<By>
+    ensures { result ≡ due_by item.now }
+{
+    match item.phase {
+        Phase::Waiting => Some(By::User),
+        Phase::Interrupted(_) => {
+            if is_immediate(mode_of_item(item)) {
+                Some(By::Itself)
+            } else {
+                None
+            }
+        }
+        Phase::Running | Phase::Paused | Phase::Finishing | Phase::Complete | Phase::Cancelled => {
+            None
+        }
+    }
+}
+
+fn is_due(item: &Item) -> bool
+    ensures { result ≡ is_due item.now }
+{
+    due_by(item).is_some()
+}
+
+fn find_due(items: &[Item]) -> Option<&Item>
+    ensures { option_copied result ≡ find is_due items.now }
+{
+    items.iter().find(|item| is_due(item))
+}
+
+/// The first item that is due for an attempt, and by whom.
+pub(crate) fn first_due(items: &[Item]) -> Option<(ItemId, By)>
+    ensures { result ≡ first_due items.now }
+{
+    match find_due(items) {
+        Some(item) => match due_by(item) {
+            Some(by) => Some((item.id, by)),
+            None => None,
+        },
+        None => None,
+    }
+}
