@@ -14,7 +14,7 @@ use Rattle.dm_cli.specs.Causes.{IsTaken, IsNetFault, Meets, MeetsContent, taken,
 use Rattle.dm_cli.specs.Get.{IsLast}
 use Rattle.dm_cli.specs.Run.{RunSays, NoneRose, Completes}
 use Rattle.dm_cli.proofs.Apart.{not_head, not_short, not_unframed, not_overfull}
-use Rattle.dm_cli.proofs.Running.{same_name}
+use Rattle.dm_words.proofs.OneCommand.{one_get}
 
 -- the last of two equal lists is one
 same_last : (xs ys : List Closed) (a b : Closed) → xs ++ a ∷ [] ≡ ys ++ b ∷ [] → a ≡ b
@@ -55,6 +55,6 @@ completes words old new disk_before disk_after net_before net_after before after
       | inl none ↦ absurd (net none.1.0.met.kind none.1.0.met.rose)
       | inr one ↦
           absurd (not_met net_before net_after ran.at (length ran.led) old says.name one.connection.stream content one.says.0.broke net
-          (λ stands. free (subst (IsTaken old) (same_name words says.name says.text name text says.is is) stands))
+          (λ stands. free (subst (IsTaken old) (one_get words says.name says.text name text says.is is) stands))
           (subst (λ (c : Closed). IsWhole c.stream content) (sym (last_is before ran.led after one.connection connection one.last last)) whole) one.says.0.met)
     ]

@@ -1,10 +1,11 @@
 -- What a run of a command says.
-use Rattle.std.proofs.Common.{◌≡◌, ℕ, List, ◌∷◌, [], inl, inr, sym, ◌∙◌, ap}
+use Rattle.std.proofs.Common.{◌≡◌, ℕ, List, inl, inr, ap}
 use Rattle.dm_types.specs.declared.kinds.DiskKind.{DiskKind}
 use Rattle.dm_edge.specs.declared.fault.NetFault.{NetFault}
 use Rattle.dm_edge.specs.Wire.{Closed}
 use Rattle.dm_disk_model.specs.Disk.{DiskState}
 use Rattle.dm_words.specs.Command.{IsGet}
+use Rattle.dm_words.proofs.OneCommand.{one_get}
 use Rattle.dm_cli.specs.declared.ending.Ending.{Ending}
 use Rattle.dm_cli.specs.declared.ending.Ending.TheVariants.{Complete, Interrupted, BadWords, BadAddress, DiskFailed, NoMemory}
 use Rattle.dm_cli.specs.Get.{file_place}
@@ -20,11 +21,6 @@ ran_says words old new disk_before disk_after net_before net_after before after 
 ran_says words old new disk_before disk_after net_before net_after before after BadWords ran = elim ran.says.ended [ inl none ↦ absurd none.1 | inr one ↦ absurd one.says ]
 ran_says words old new disk_before disk_after net_before net_after before after BadAddress ran = elim ran.says.ended [ inl none ↦ absurd none.1 | inr one ↦ absurd one.says ]
 
--- the words are one get alone
-pub same_name : (words : List (List ℕ)) (name address other_name other_address : List ℕ) → IsGet words name address → IsGet words other_name other_address → name ≡ other_name
-same_name words name address other_name other_address is other = third_is (sym is.is ∙ other.is) where
-  third_is : {a b c d e f : List ℕ} {x y : List ℕ} → a ∷ b ∷ x ∷ d ∷ [] ≡ c ∷ e ∷ y ∷ f ∷ [] → x ≡ y
-  third_is same = cc
-
+-- the words are one get, of one file
 pub same_file : (words : List (List ℕ)) (name address other_name other_address : List ℕ) → IsGet words name address → IsGet words other_name other_address → file_place name ≡ file_place other_name
-same_file words name address other_name other_address is other = ap file_place (same_name words name address other_name other_address is other)
+same_file words name address other_name other_address is other = ap file_place (one_get words name address other_name other_address is other)

@@ -31,8 +31,10 @@ pub record AsksSome (words : List (List ℕ)) : Type 0 where
 -- the words are to add an address that is none
 pub record AddsBadAddress (words : List (List ℕ)) : Type 0 where
   pub word : Option (List ℕ)
+  pub name : Option (List ℕ)
+  pub digest : Option (List ℕ)
   pub text : List ℕ
-  pub is : Asks words (Adds word text)
+  pub is : Asks words (Adds word name digest text)
   pub none : IsNoAddress text
 
 -- the text is no address, and the ending says so
@@ -42,7 +44,7 @@ RefusesText text _ = ⊥
 
 -- what is asked is to add an address that is none
 abbrev pub RefusesAsked : Asked → Ending → Type 0
-RefusesAsked (Adds word text) ending = RefusesText text ending
+RefusesAsked (Adds word name digest text) ending = RefusesText text ending
 RefusesAsked Lists ending = ⊥
 RefusesAsked (Shows id) ending = ⊥
 

@@ -6,7 +6,7 @@ ghost use Rattle.dm_disk_model.specs.Moments.{KeepsFiles, LeavesOnly};
 ghost use Rattle.dm_words.specs.Listing.{asked};
 ghost use Rattle.dm_list.specs.Ending.{errs_text, HasShown, out_text, status_of};
 ghost use Rattle.dm_list.specs.Moments.{RunLeaves};
-ghost use Rattle.dm_list.specs.Run.{HasGoodWord, RunSays as ListSays};
+ghost use Rattle.dm_list.specs.Run.{HasGoodWords, RunSays as ListSays};
 ghost use Rattle.dm_cli.specs.Listing.{ExplainsList};
 ghost use Rattle.dm_cli.specs.Print.{PrintsTexts};
 
@@ -28,7 +28,7 @@ pub fn run_listing<D: Disk, O: Origin, S: Sink>(
     out: &mut S,
     errs: &mut S,
 ) -> Ran<D>
-    requires { HasGoodWord (asked command.now) }
+    requires { HasGoodWords (asked command.now) }
     ensures says { ExplainsList (λ ending.
         ListSays D.tells (D.history disk) (D.history result.disk) (asked command.now) at ending
         × HasShown (D.faults disk) (D.faults result.disk) ending

@@ -86,7 +86,7 @@ fn refused_listing(alloc: Global, command: &ListCommand<'_>) -> Option<Ending>
     ensures { IfSome result (RefusesAsked (asked command.now)) }
 {
     match command {
-        ListCommand::Add { address, .. } => bad_address(alloc, address),
+        ListCommand::Add(item) => bad_address(alloc, item.address),
         ListCommand::List => None,
         ListCommand::Show(_) => None,
     }

@@ -154,8 +154,8 @@ one_answer (Shows id) items at first second more other is is' says says' = recor
   ending = shown_one id (item_in id items.items) first second is is' says.0 says'.0;
   entries = says.1 ∙ sym says'.1;
 }
-one_answer (Adds word text) items at first second more other is is' says says' =
+one_answer (Adds word name digest text) items at first second more other is is' says says' =
     let one : says.address ≡ says'.address = same_address says.address says'.address (sym says.reads ∙ says'.reads) in
-    compared items (order_of word says'.address) at first second more other
-    (answered items (order_of word says'.address) at first more is (subst (λ (a : Address). AddSays items (order_of word a) at first more) one says.says))
-    (answered items (order_of word says'.address) at second other is' says'.says)
+    compared items (order_of word name digest says'.address) at first second more other
+    (answered items (order_of word name digest says'.address) at first more is (subst (λ (a : Address). AddSays items (order_of word name digest a) at first more) one says.says))
+    (answered items (order_of word name digest says'.address) at second other is' says'.says)

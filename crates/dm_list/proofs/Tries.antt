@@ -32,11 +32,12 @@ use Rattle.dm_request.specs.declared.address.AddressFault.TheVariants.{TooLong}
 use Rattle.dm_request.proofs.ReadingLemmas.{too_long}
 use Rattle.dm_report.specs.Texts.{item_line_of}
 use Rattle.dm_words.specs.Listing.{Adds as AsksAdd, IsWord}
+use Rattle.dm_words.specs.Name.{IsName}
 use Rattle.dm_words.specs.ListLines.{items_full_line, word_taken_line}
 use Rattle.dm_list.specs.Ending.{HasShown, Shows}
 use Rattle.dm_list.specs.Moments.{RunLeaves, adding, entries_of}
-use Rattle.dm_list.specs.Run.{Did, IsHeld, Judges, RunSays}
-use Rattle.dm_list.specs.Says.{AddSays, Tells, item_of, order_of, word_or_empty}
+use Rattle.dm_list.specs.Run.{Did, IsGoodItem, IsHeld, Judges, RunSays}
+use Rattle.dm_list.specs.Says.{AddSays, Tells, item_of, or_empty, order_of}
 use Rattle.dm_list.specs.Steps.{AddDid, AddEnds, IsOrderOf}
 use Rattle.dm_list.specs.declared.ending.ListEnding.{ListEnding}
 use Rattle.dm_list.specs.declared.ending.ListEnding.TheVariants.{Said, BadAddress, NoItem, Damaged, DiskFailed, Full, NoMemory, OtherWord}
@@ -205,15 +206,20 @@ address_short address reads = elim (cases_lt most (length address.text)) [
   refused : (a : Address) → Err (TooLong (length address.text)) ≡ Ok a → ⊥
   refused a is = absurd cc
 
-word_short : (word : Option (List ℕ)) → IfSome word IsWord → length (word_or_empty word) ≤ 64
+word_short : (word : Option (List ℕ)) → IfSome word IsWord → length (or_empty word) ≤ 64
 word_short None good = omega arith
 word_short (Some word) good = good.short
 
--- an order of a good word and an address that was read keeps its limits
-pub order_fits : (word : Option (List ℕ)) (address : Address) (order : Order) → IfSome word IsWord → IsRead address.text address → order ≡ order_of word address → IsOrder order
-order_fits word address order good reads is = subst IsOrder (sym is) (record { word = word_short word good; address = address_short address reads; wish = omega arith })
+name_short : (name : Option (List ℕ)) → IfSome name IsName → length (or_empty name) ≤ 255
+name_short None good = omega arith
+name_short (Some name) good = let short = good.short in omega arith
 
-module _ {D O : Type 0} (tells : Type 0) (clock : D → Clock) (start : Clock) (old new : View D O) (order : Order) (at : ℕ) (word : Option (List ℕ)) (text : List ℕ) (is : IsOrderOf word text order)
+-- an order of a good word, a good name and an address that was read keeps its limits
+pub order_fits : (word name digest : Option (List ℕ)) (address : Address) (order : Order) → IsGoodItem word name → IsRead address.text address → order ≡ order_of word name digest address → IsOrder order
+order_fits word name digest address order good reads is =
+    subst IsOrder (sym is) (record { word = word_short word good.word_is; address = address_short address reads; wish = name_short name good.name_is })
+
+module _ {D O : Type 0} (tells : Type 0) (clock : D → Clock) (start : Clock) (old new : View D O) (order : Order) (at : ℕ) (word name digest : Option (List ℕ)) (text : List ℕ) (is : IsOrderOf word name digest text order)
     (opened : tells → IsOpened start most_items at (HoldsOf clock old)) (limit : old.items.limit ≡ most_items)
     (before : tells → LeavesOnly start (clock old.disk) (OpenLeaves (now start) at)) where
   held : (ending : ListEnding) (added : AddDid tells clock old new order at ending) → (told : tells) → (o : IsOpened start most_items at (HoldsOf clock old)) → IsHeld start (clock new.disk) old.items at ending added.more
@@ -228,7 +234,7 @@ module _ {D O : Type 0} (tells : Type 0) (clock : D → Clock) (start : Clock) (
         leaves = runs.leaves;
       }
 
-  did : (ending : ListEnding) → AddDid tells clock old new order at ending → Did tells start (clock new.disk) (AsksAdd word text) at ending
+  did : (ending : ListEnding) → AddDid tells clock old new order at ending → Did tells start (clock new.disk) (AsksAdd word name digest text) at ending
   did ending added = record {
     items = old.items;
     more = added.more;
@@ -237,7 +243,7 @@ module _ {D O : Type 0} (tells : Type 0) (clock : D → Clock) (start : Clock) (
   }
 
   -- what `add` says of the list that was opened
-  pub add_says : (ending : ListEnding) → AddDid tells clock old new order at ending → RunSays tells start (clock new.disk) (AsksAdd word text) at ending
+  pub add_says : (ending : ListEnding) → AddDid tells clock old new order at ending → RunSays tells start (clock new.disk) (AsksAdd word name digest text) at ending
   add_says (Said line) added = did (Said line) added
   add_says (OtherWord line) added = did (OtherWord line) added
   add_says (Full line) added = did (Full line) added
@@ -248,7 +254,7 @@ module _ {D O : Type 0} (tells : Type 0) (clock : D → Clock) (start : Clock) (
   add_says (Damaged line) added = absurd added.says
 
   -- and the address was good
-  pub add_judges : (before after : D) (ending : ListEnding) → AddDid tells clock old new order at ending → Judges (AsksAdd word text) before after ending
+  pub add_judges : (before after : D) (ending : ListEnding) → AddDid tells clock old new order at ending → Judges (AsksAdd word name digest text) before after ending
   add_judges before after (Said line) added = record { address = is.address; reads = is.reads }
   add_judges before after (OtherWord line) added = record { address = is.address; reads = is.reads }
   add_judges before after (Full line) added = record { address = is.address; reads = is.reads }
@@ -259,32 +265,32 @@ module _ {D O : Type 0} (tells : Type 0) (clock : D → Clock) (start : Clock) (
   add_judges before after (Damaged line) added = absurd added.says
 
   -- the entry of the order is the one that the command tries
-  entries_are : (whole : History) → HoldsOf clock old whole → added_by old.items order at ∷ [] ≡ entries_of (AsksAdd word text) whole at
+  entries_are : (whole : History) → HoldsOf clock old whole → added_by old.items order at ∷ [] ≡ entries_of (AsksAdd word name digest text) whole at
   entries_are whole holds =
       let next : old.items.next ≡ next_id_of whole = ap (λ (v : Listing). v.next) holds.items.value in
       ap (λ (o : Order). added_by old.items o at ∷ []) is.is
-      ∙ ap (λ (n : ℕ). adding (word_or_empty word) (Ok is.address) n at) next
-      ∙ ap (λ (r : Result Address AddressFault). adding (word_or_empty word) r (next_id_of whole) at) (sym is.reads)
+      ∙ ap (λ (n : ℕ). adding (or_empty word) (or_empty name) digest (Ok is.address) n at) next
+      ∙ ap (λ (r : Result Address AddressFault). adding (or_empty word) (or_empty name) digest r (next_id_of whole) at) (sym is.reads)
 
   tried : (whole more : History) → HoldsOf clock old whole → (more ≡ []) ⊎ (more ≡ added_by old.items order at ∷ []) → Runs whole more (clock old.disk) (clock new.disk)
-      → Runs whole (entries_of (AsksAdd word text) whole at) (clock old.disk) (clock new.disk)
+      → Runs whole (entries_of (AsksAdd word name digest text) whole at) (clock old.disk) (clock new.disk)
   tried whole more holds (inl none) runs =
-      tried_none (clock old.disk) (clock new.disk) whole (entries_of (AsksAdd word text) whole at) (subst (λ (m : History). Runs whole m (clock old.disk) (clock new.disk)) none runs)
+      tried_none (clock old.disk) (clock new.disk) whole (entries_of (AsksAdd word name digest text) whole at) (subst (λ (m : History). Runs whole m (clock old.disk) (clock new.disk)) none runs)
   tried whole more holds (inr one) runs =
       subst (λ (m : History). Runs whole m (clock old.disk) (clock new.disk)) (one ∙ entries_are whole holds) runs
 
   -- what each moment of `add` leaves
-  pub add_moments : (ending : ListEnding) → AddDid tells clock old new order at ending → tells → LeavesOnly start (clock new.disk) (RunLeaves (now start) (AsksAdd word text) at)
+  pub add_moments : (ending : ListEnding) → AddDid tells clock old new order at ending → tells → LeavesOnly start (clock new.disk) (RunLeaves (now start) (AsksAdd word name digest text) at)
   add_moments ending added told =
       let o = opened told in
       let runs = added.does told (o.found ++ reopening o.found at) o.whole in
-      later_moments start (clock old.disk) (clock new.disk) at (λ history. entries_of (AsksAdd word text) history at) (before told) o.found o.reads
+      later_moments start (clock old.disk) (clock new.disk) at (λ history. entries_of (AsksAdd word name digest text) history at) (before told) o.found o.reads
       (tried (o.found ++ reopening o.found at) added.more o.whole (entries_tried old.items order at ending added.more added.says) runs.moments)
 
   -- the same of the disk that the desk hands back
-  pub add_ran : (disk : D) → disk ≡ new.disk → (ending : ListEnding) → AddDid tells clock old new order at ending → RunSays tells start (clock disk) (AsksAdd word text) at ending
-  add_ran disk same ending added = subst (λ (d : D). RunSays tells start (clock d) (AsksAdd word text) at ending) (sym same) (add_says ending added)
+  pub add_ran : (disk : D) → disk ≡ new.disk → (ending : ListEnding) → AddDid tells clock old new order at ending → RunSays tells start (clock disk) (AsksAdd word name digest text) at ending
+  add_ran disk same ending added = subst (λ (d : D). RunSays tells start (clock d) (AsksAdd word name digest text) at ending) (sym same) (add_says ending added)
 
-  pub add_leaves : (disk : D) → disk ≡ new.disk → (ending : ListEnding) → AddDid tells clock old new order at ending → tells → LeavesOnly start (clock disk) (RunLeaves (now start) (AsksAdd word text) at)
+  pub add_leaves : (disk : D) → disk ≡ new.disk → (ending : ListEnding) → AddDid tells clock old new order at ending → tells → LeavesOnly start (clock disk) (RunLeaves (now start) (AsksAdd word name digest text) at)
   add_leaves disk same ending added told =
-      subst (λ (d : D). LeavesOnly start (clock d) (RunLeaves (now start) (AsksAdd word text) at)) (sym same) (add_moments ending added told)
+      subst (λ (d : D). LeavesOnly start (clock d) (RunLeaves (now start) (AsksAdd word name digest text) at)) (sym same) (add_moments ending added told)

@@ -59,15 +59,15 @@ untouched clock at = record {
 }
 
 -- what is said where no order was read
-pub unread_says : (tells : Type 0) (clock : Clock) (word : Option (List ℕ)) (text : List ℕ) (at : ℕ) (ending : ListEnding) → Unread text ending → RunSays tells clock clock (Adds word text) at ending
-unread_says tells clock word text at BadAddress none = (none, refl)
-unread_says tells clock word text at NoMemory is = inl (λ told. untouched clock at)
-unread_says tells clock word text at (Said line) is = absurd is
-unread_says tells clock word text at (NoItem line) is = absurd is
-unread_says tells clock word text at (Damaged line) is = absurd is
-unread_says tells clock word text at (DiskFailed kind) is = absurd is
-unread_says tells clock word text at (Full line) is = absurd is
-unread_says tells clock word text at (OtherWord line) is = absurd is
+pub unread_says : (tells : Type 0) (clock : Clock) (word name digest : Option (List ℕ)) (text : List ℕ) (at : ℕ) (ending : ListEnding) → Unread text ending → RunSays tells clock clock (Adds word name digest text) at ending
+unread_says tells clock word name digest text at BadAddress none = (none, refl)
+unread_says tells clock word name digest text at NoMemory is = inl (λ told. untouched clock at)
+unread_says tells clock word name digest text at (Said line) is = absurd is
+unread_says tells clock word name digest text at (NoItem line) is = absurd is
+unread_says tells clock word name digest text at (Damaged line) is = absurd is
+unread_says tells clock word name digest text at (DiskFailed kind) is = absurd is
+unread_says tells clock word name digest text at (Full line) is = absurd is
+unread_says tells clock word name digest text at (OtherWord line) is = absurd is
 
 -- the same of the disk that is handed back
 pub unopened_ran : {D : Type 0} (tells : Type 0) (clock : D → Clock) (start : Clock) (at : ℕ) (fault : OpenFault D) (disk : D) (ending : ListEnding) → disk ≡ disk_in fault

@@ -1,5 +1,5 @@
 -- What a crash leaves at each moment of a command of the list.
-use Rattle.std.specs.Prelude.{◌⊎◌, ℕ, List, [], ◌∷◌, ◌++◌, None, Result, Ok, Err}
+use Rattle.std.specs.Prelude.{◌⊎◌, ℕ, List, [], ◌∷◌, ◌++◌, Option, None, Result, Ok, Err}
 use Rattle.dm_types.specs.declared.address.Address.{Address}
 use Rattle.dm_types.specs.declared.entry.Entry.TheVariants.{Added}
 use Rattle.dm_disk_model.specs.Disk.{DiskState, Image, bytes_at}
@@ -12,16 +12,16 @@ use Rattle.dm_desk.specs.Opening.{reopening}
 use Rattle.dm_request.specs.declared.address.AddressFault.{AddressFault}
 use Rattle.dm_request.specs.Reading.{address_read}
 use Rattle.dm_words.specs.Listing.{Listing as Asked, Adds, Lists, Shows}
-use Rattle.dm_list.specs.Says.{word_or_empty}
+use Rattle.dm_list.specs.Says.{or_empty}
 
 -- the entry of an item for an address, with this id
-abbrev pub adding : List ℕ → Result Address AddressFault → ℕ → ℕ → History
-adding word (Ok address) next at = Added (record { 0 = next }) word address.text [] None at ∷ []
-adding word (Err fault) next at = []
+abbrev pub adding : (word wish : List ℕ) → Option (List ℕ) → Result Address AddressFault → ℕ → ℕ → History
+adding word wish digest (Ok address) next at = Added (record { 0 = next }) word address.text wish digest at ∷ []
+adding word wish digest (Err fault) next at = []
 
 -- the entries that a command may add behind a history
 abbrev pub entries_of : Asked → History → ℕ → History
-entries_of (Adds word text) history at = adding (word_or_empty word) (address_read None text) (next_id_of history) at
+entries_of (Adds word name digest text) history at = adding (or_empty word) (or_empty name) digest (address_read None text) (next_id_of history) at
 entries_of Lists history at = []
 entries_of (Shows id) history at = []
 

@@ -1,5 +1,5 @@
 -- What a run of a command of the list says by its ending, from one moment of the disk to another.
-use Rattle.std.specs.Prelude.{◌≡◌, ◌⊎◌, ℕ, List, ◌++◌, reverse, IfSome}
+use Rattle.std.specs.Prelude.{◌≡◌, ◌⊎◌, ℕ, List, ◌++◌, reverse, Option, IfSome}
 use Rattle.dm_disk_model.specs.Disk.{DiskState, History as Clock, bytes_at, now}
 use Rattle.dm_disk_model.specs.Moments.{LeavesOnly}
 use Rattle.dm_item.specs.Lawful.{History, left_by}
@@ -13,16 +13,22 @@ use Rattle.dm_request.specs.Fault.{IsNoAddress, IsRead as IsAddressOf}
 use Rattle.dm_types.specs.declared.address.Address.{Address}
 use Rattle.dm_words.specs.Listing.{Listing as Asked, Adds, IsWord, Lists, Shows}
 use Rattle.dm_words.specs.ListLines.{journal_damaged_line}
+use Rattle.dm_words.specs.Name.{IsName}
 use Rattle.dm_list.specs.Moments.{LeavesSome}
 use Rattle.dm_list.specs.Says.{Says}
 use Rattle.dm_list.specs.declared.ending.ListEnding.{ListEnding}
 use Rattle.dm_list.specs.declared.ending.ListEnding.TheVariants.{Said, BadAddress, NoItem, Damaged, DiskFailed, Full, NoMemory, OtherWord}
 
--- where a word is told it is one
-abbrev pub HasGoodWord : Asked → Type 0
-HasGoodWord (Adds word text) = IfSome word IsWord
-HasGoodWord Lists = Unit {0}
-HasGoodWord (Shows id) = Unit {0}
+-- a word is one, and a name is one, where they are there
+pub record IsGoodItem (word name : Option (List ℕ)) : Type 0 where
+  pub word_is : IfSome word IsWord
+  pub name_is : IfSome name IsName
+
+-- the words that are told with a command keep their rules
+abbrev pub HasGoodWords : Asked → Type 0
+HasGoodWords (Adds word name digest text) = IsGoodItem word name
+HasGoodWords Lists = Unit {0}
+HasGoodWords (Shows id) = Unit {0}
 
 -- an address is read of the text
 pub record IsAddress (text : List ℕ) : Type 0 where
@@ -31,13 +37,13 @@ pub record IsAddress (text : List ℕ) : Type 0 where
 
 -- where an address is asked for, it is one
 abbrev pub HasGoodAddress : Asked → Type 0
-HasGoodAddress (Adds word text) = IsAddress text
+HasGoodAddress (Adds word name digest text) = IsAddress text
 HasGoodAddress Lists = Unit {0}
 HasGoodAddress (Shows id) = Unit {0}
 
 -- an address is asked for, and it is none
 abbrev pub HasBadAddress : Asked → Type 0
-HasBadAddress (Adds word text) = IsNoAddress text
+HasBadAddress (Adds word name digest text) = IsNoAddress text
 HasBadAddress Lists = ⊥
 HasBadAddress (Shows id) = ⊥
 

@@ -43,14 +43,14 @@ ShowsItem id (Some item) ending = Tells Said (item_text_of item) ending
 abbrev pub ShowSays : List Item → ℕ → ListEnding → Type 0
 ShowSays items id ending = ShowsItem id (item_in id items) ending
 
--- the word, or the empty one
-abbrev pub word_or_empty : Option (List ℕ) → List ℕ
-word_or_empty None = []
-word_or_empty (Some word) = word
+-- the text, or the empty one
+abbrev pub or_empty : Option (List ℕ) → List ℕ
+or_empty None = []
+or_empty (Some text) = text
 
--- what is to be added: no name is handed in and no digest is stated
-abbrev pub order_of : Option (List ℕ) → Address → Order
-order_of word address = record { word = word_or_empty word; address = address; wish = []; digest = None }
+-- what is to be added: the name is handed in as a wish
+abbrev pub order_of : (word name digest : Option (List ℕ)) → Address → Order
+order_of word name digest address = record { word = or_empty word; address = address; wish = or_empty name; digest = digest }
 
 -- the item that an order becomes
 abbrev pub item_of : Listing → Order → ℕ → Item
@@ -99,16 +99,16 @@ AddSays items order at (NoItem line) more = ⊥
 AddSays items order at (Damaged line) more = ⊥
 
 -- the text is an address, and adding it says this
-pub record AddsRead (items : Listing) (word : Option (List ℕ)) (text : List ℕ) (at : ℕ) (ending : ListEnding) (more : History) : Type 0 where
+pub record AddsRead (items : Listing) (word name digest : Option (List ℕ)) (text : List ℕ) (at : ℕ) (ending : ListEnding) (more : History) : Type 0 where
   pub address : Address
   pub reads : IsRead text address
-  pub says : AddSays items (order_of word address) at ending more
+  pub says : AddSays items (order_of word name digest address) at ending more
 
 -- what the command says on a list, and which entries it tries behind those of the list
 abbrev pub Says : Asked → Listing → ℕ → ListEnding → History → Type 0
 Says Lists items at ending more = ListSays items.items ending × (more ≡ [])
 Says (Shows id) items at ending more = ShowSays items.items id ending × (more ≡ [])
-Says (Adds word text) items at ending more = AddsRead items word text at ending more
+Says (Adds word name digest text) items at ending more = AddsRead items word name digest text at ending more
 
 -- memory was not wanting, and no call on the disk failed
 abbrev pub IsAnswer : ListEnding → Type 0

@@ -44,10 +44,10 @@ Unread text (Full line) = ⊥
 Unread text (OtherWord line) = ⊥
 
 -- the order is for the address that is read of the text
-pub record IsOrderOf (word : Option (List ℕ)) (text : List ℕ) (order : Order) : Type 0 where
+pub record IsOrderOf (word name digest : Option (List ℕ)) (text : List ℕ) (order : Order) : Type 0 where
   pub address : Address
   pub reads : IsRead text address
-  pub is : order ≡ order_of word address
+  pub is : order ≡ order_of word name digest address
 
 -- the ending of a refused opening, by its fault
 abbrev pub OpenEnds : JournalFault → ListEnding → Type 0

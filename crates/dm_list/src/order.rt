@@ -1,35 +1,36 @@
-ghost use Rattle.std.specs.Prelude.{◌≡◌, IfErr, IfOk, IfSome};
+ghost use Rattle.std.specs.Prelude.{◌≡◌, IfErr, IfOk};
 ghost use Rattle.std.specs.Option.{option_copied};
-ghost use Rattle.dm_words.specs.Listing.{IsWord};
 ghost use Rattle.dm_desk.specs.Add.{IsOrder};
-ghost use Rattle.dm_list.specs.Says.{order_of, word_or_empty};
+ghost use Rattle.dm_list.specs.Run.{IsGoodItem};
+ghost use Rattle.dm_list.specs.Says.{or_empty, order_of};
 ghost use Rattle.dm_list.specs.Steps.{IsOrderOf, Unread, unread_ending};
 
 use crate::ListEnding;
 use dm_desk::Order;
 use dm_request::{AddressFault, read_address};
 use dm_types::{Address, NoMemory, Text};
+use dm_words::NewItem;
 use std::alloc::Global;
 
-/// The word, or the empty one.
-fn word_text(alloc: Global, word: Option<&[u8]>) -> Result<Text, NoMemory>
-    ensures { IfOk result (λ text. text ≡ word_or_empty (option_copied word.entry)) }
+/// The text, or the empty one.
+fn text_or_empty(alloc: Global, text: Option<&[u8]>) -> Result<Text, NoMemory>
+    ensures { IfOk result (λ made. made ≡ or_empty (option_copied text.entry)) }
 {
-    match word {
-        Some(word) => Text::from_bytes(alloc, word),
+    match text {
+        Some(text) => Text::from_bytes(alloc, text),
         None => Ok(Text::new(alloc)),
     }
 }
 
-/// What is to be added: no name is handed in, and no digest is stated.
-fn make_order(alloc: Global, word: Option<&[u8]>, address: Address) -> Result<Order, NoMemory>
-    ensures { IfOk result (λ order. order ≡ order_of (option_copied word.entry) address) }
+/// What is to be added: the name is handed in as a wish.
+fn make_order(alloc: Global, item: &NewItem<'_>, address: Address) -> Result<Order, NoMemory>
+    ensures { IfOk result (λ order. order ≡ order_of (option_copied item.now.word) (option_copied item.now.name) item.now.digest address) }
 {
     Ok(Order {
-        word: word_text(alloc, word)?,
+        word: text_or_empty(alloc, item.word)?,
         address,
-        wish: Text::new(alloc),
-        digest: None,
+        wish: text_or_empty(alloc, item.name)?,
+        digest: item.digest,
     })
 }
 
@@ -45,22 +46,18 @@ fn refuse_address(fault: AddressFault) -> ListEnding
     }
 }
 
-/// Reads what is to be added, under a word or under none.
-pub(crate) fn read_order(
-    alloc: Global,
-    word: Option<&[u8]>,
-    text: &[u8],
-) -> Result<Order, ListEnding>
-    requires { IfSome (option_copied word) IsWord }
-    ensures ok { IfOk result (IsOrderOf (option_copied word.entry) text.now) }
+/// Reads what is to be added.
+pub(crate) fn read_order(alloc: Global, item: &NewItem<'_>) -> Result<Order, ListEnding>
+    requires { IsGoodItem (option_copied item.now.word) (option_copied item.now.name) }
+    ensures ok { IfOk result (IsOrderOf (option_copied item.now.word) (option_copied item.now.name) item.now.digest item.now.address.now) }
     ensures fits { IfOk result IsOrder }
-    ensures refused { IfErr result (Unread text.now) }
+    ensures refused { IfErr result (Unread item.now.address.now) }
 {
-    let address = match read_address(alloc, text) {
+    let address = match read_address(alloc, item.address) {
         Ok(address) => address,
         Err(fault) => return Err(refuse_address(fault)),
     };
-    match make_order(alloc, word, address) {
+    match make_order(alloc, item, address) {
         Ok(order) => Ok(order),
         Err(NoMemory) => Err(ListEnding::NoMemory),
     }

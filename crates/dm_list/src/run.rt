@@ -1,10 +1,9 @@
-ghost use Rattle.std.specs.Option.{option_copied};
 ghost use Rattle.dm_disk_model.specs.Disk.{now as present};
 ghost use Rattle.dm_disk_model.specs.Moments.{KeepsFiles, LeavesOnly};
-ghost use Rattle.dm_words.specs.Listing.{Adds, Lists, Shows, asked};
+ghost use Rattle.dm_words.specs.Listing.{Lists, Shows, adds_item, asked};
 ghost use Rattle.dm_list.specs.Ending.{HasShown};
 ghost use Rattle.dm_list.specs.Moments.{RunLeaves};
-ghost use Rattle.dm_list.specs.Run.{HasGoodWord, Judges, RunSays};
+ghost use Rattle.dm_list.specs.Run.{HasGoodWords, Judges, RunSays};
 
 use crate::ListRan;
 use crate::adding::add_order;
@@ -15,7 +14,7 @@ use dm_desk::Order;
 use dm_disk_model::Disk;
 use dm_edge::Origin;
 use dm_types::ItemId;
-use dm_words::ListCommand;
+use dm_words::{ListCommand, NewItem};
 use std::alloc::Global;
 
 /// `list`: prints a line for each item.
@@ -64,20 +63,19 @@ fn let_go(_order: Order) {}
 /// `add`: adds an item for an address, and prints its line.
 fn run_add<D: Disk, O: Origin>(
     alloc: Global,
-    word: Option<&[u8]>,
-    text: &[u8],
+    item: &NewItem<'_>,
     disk: D,
     origin: O,
     at: u64,
 ) -> ListRan<D>
-    requires { HasGoodWord (Adds (option_copied word) text.now) }
-    ensures says { RunSays D.tells (D.history disk) (D.history result.disk) (Adds (option_copied word.entry) text.now) at result.ending }
-    ensures moments { D.tells → LeavesOnly (D.history disk) (D.history result.disk) (RunLeaves (present (D.history disk)) (Adds (option_copied word.entry) text.now) at) }
-    ensures judges { Judges (Adds (option_copied word.entry) text.now) disk result.disk result.ending }
+    requires { HasGoodWords (adds_item item.now) }
+    ensures says { RunSays D.tells (D.history disk) (D.history result.disk) (adds_item item.now) at result.ending }
+    ensures moments { D.tells → LeavesOnly (D.history disk) (D.history result.disk) (RunLeaves (present (D.history disk)) (adds_item item.now) at) }
+    ensures judges { Judges (adds_item item.now) disk result.disk result.ending }
     ensures beside { D.tells → KeepsFiles (D.history disk) (D.history result.disk) }
     ensures shown { HasShown (D.faults disk) (D.faults result.disk) result.ending }
 {
-    let order = match read_order(alloc, word, text) {
+    let order = match read_order(alloc, item) {
         Ok(order) => order,
         Err(ending) => return ListRan { ending, disk },
     };
@@ -96,7 +94,7 @@ fn run_add<D: Disk, O: Origin>(
 }
 
 /// Does what a command says of the list of a disk, and hands the disk back. `now` is the moment in
-/// milliseconds since 1970. A word has at most 64 bytes, as the words of a command say. Where the
+/// milliseconds since 1970. A word and a name keep their rules, as the words of a command say. Where the
 /// address of an `add` is refused nothing is done. Else the list is opened, which is recorded, and an
 /// item that is added is recorded before its line is made: where memory is wanting for that it stands.
 pub fn run_list<D: Disk, O: Origin>(
@@ -106,7 +104,7 @@ pub fn run_list<D: Disk, O: Origin>(
     origin: O,
     now: u64,
 ) -> ListRan<D>
-    requires { HasGoodWord (asked command.now) }
+    requires { HasGoodWords (asked command.now) }
 
     // What the ending says of the list that the journal held, of what was added, and of what each crash after the run leaves.
     ensures says { RunSays D.tells (D.history disk) (D.history result.disk) (asked command.now) now result.ending }
@@ -120,7 +118,7 @@ pub fn run_list<D: Disk, O: Origin>(
     ensures shown { HasShown (D.faults disk) (D.faults result.disk) result.ending }
 {
     match command {
-        ListCommand::Add { word, address } => run_add(alloc, *word, address, disk, origin, now),
+        ListCommand::Add(item) => run_add(alloc, item, disk, origin, now),
         ListCommand::List => run_lines(alloc, disk, origin, now),
         ListCommand::Show(id) => run_show(alloc, *id, disk, origin, now),
     }

@@ -12,8 +12,51 @@ const ADDED: [u8; 64] = [
     0x2f, 0x68, 0x2f, 0x61, 0x00, 0x00, 0x00, 0x00, 0x00, 0x00, 0x00, 0x00, 0x00, 0x00, 0x00, 0x00,
 ];
 
+// The same with the name a.txt and the SHA-256 of the empty text.
+const WISHED_FOR: [u8; 101] = [
+    0x44, 0x4d, 0x4a, 0x52, 0x4e, 0x4c, 0x31, 0x0a, 0x01, 0x00, 0x00, 0x00, 0x0d, 0x0d, 0x00, 0x00,
+    0x00, 0x01, 0x00, 0x00, 0x00, 0x00, 0x00, 0x00, 0x00, 0x00, 0x01, 0x00, 0x00, 0x00, 0x45, 0x01,
+    0x00, 0x00, 0x00, 0x01, 0x00, 0x02, 0x77, 0x31, 0x00, 0x0a, 0x68, 0x74, 0x74, 0x70, 0x3a, 0x2f,
+    0x2f, 0x68, 0x2f, 0x61, 0x00, 0x05, 0x61, 0x2e, 0x74, 0x78, 0x74, 0x01, 0xe3, 0xb0, 0xc4, 0x42,
+    0x98, 0xfc, 0x1c, 0x14, 0x9a, 0xfb, 0xf4, 0xc8, 0x99, 0x6f, 0xb9, 0x24, 0x27, 0xae, 0x41, 0xe4,
+    0x64, 0x9b, 0x93, 0x4c, 0xa4, 0x95, 0x99, 0x1b, 0x78, 0x52, 0xb8, 0x55, 0x00, 0x00, 0x00, 0x00,
+    0x00, 0x00, 0x00, 0x00, 0x00,
+];
+
 const FIRST: Row = Row {
     words: &[b"add", b"--word", b"w1", b"http://h/a"],
+    status: 0,
+    out: b"1 waiting 0 ? -\n",
+    errs: b"",
+};
+
+const WITH_A_WISH: Row = Row {
+    words: &[
+        b"add",
+        b"--sha256",
+        b"e3b0c44298fc1c149afbf4c8996fb92427ae41e4649b934ca495991b7852b855",
+        b"--name",
+        b"a.txt",
+        b"--word",
+        b"w1",
+        b"http://h/a",
+    ],
+    status: 0,
+    out: b"1 waiting 0 ? -\n",
+    errs: b"",
+};
+
+const IN_ANOTHER_ORDER: Row = Row {
+    words: &[
+        b"add",
+        b"http://h/a",
+        b"--word",
+        b"w1",
+        b"--name",
+        b"a.txt",
+        b"--sha256",
+        b"E3B0C44298FC1C149AFBF4C8996FB92427AE41E4649B934CA495991B7852B855",
+    ],
     status: 0,
     out: b"1 waiting 0 ? -\n",
     errs: b"",
@@ -103,6 +146,23 @@ fn an_added_item_is_in_the_journal(rt: HostRuntime) -> Result<(), Fail> {
     let alloc = rt.alloc();
     let (right, mut there) = say(alloc, disk(alloc, None)?, &[FIRST])?;
     assert!(rt; right && holds(alloc, &mut there, &home(alloc)?, &ADDED)?);
+    Ok(())
+}
+
+#[test]
+fn a_name_and_a_digest_are_in_the_journal(rt: HostRuntime) -> Result<(), Fail> {
+    let alloc = rt.alloc();
+    for row in [WITH_A_WISH, IN_ANOTHER_ORDER] {
+        let (right, mut there) = say(alloc, disk(alloc, None)?, &[row])?;
+        assert!(rt; right && holds(alloc, &mut there, &home(alloc)?, &WISHED_FOR)?);
+    }
+    Ok(())
+}
+
+#[test]
+fn another_order_of_the_words_adds_nothing(rt: HostRuntime) -> Result<(), Fail> {
+    let rows = [WITH_A_WISH, IN_ANOTHER_ORDER, SHOWN];
+    assert_eq!(rt; length_after(rt.alloc(), &rows)?, Some(137));
     Ok(())
 }
 

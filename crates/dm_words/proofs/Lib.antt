@@ -1,3 +1,5 @@
 pub mod Endings
 pub mod Texts
-pub mod Apart
+pub mod OnePieces
+pub mod MorePieces
+pub mod OneCommand

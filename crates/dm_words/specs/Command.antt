@@ -1,14 +1,9 @@
--- The forms that are a command. A form is the whole list of words.
-use Rattle.std.specs.Prelude.{◌≡◌, ◌≢◌, ℕ, ◌<◌, List, [], ◌∷◌, length, slice_index, codes}
+-- The words of `get`.
+use Rattle.std.specs.Prelude.{ℕ, List, Some, codes}
 use Rattle.dm_words.specs.Name.{IsName}
+use Rattle.dm_words.specs.Pieces.{IsCommand, no_parts}
 
--- an operand is not empty and begins with no hyphen
-pub record IsOperand (word : List ℕ) : Type 0 where
-  pub filled : 0 < length word
-  pub begins_no_hyphen : slice_index word 0 ≢ 45
-
--- get --name NAME ADDRESS
+-- get --name NAME ADDRESS, in any order
 pub record IsGet (words : List (List ℕ)) (name address : List ℕ) : Type 0 where
-  pub is : words ≡ codes "get" ∷ codes "--name" ∷ name ∷ address ∷ []
+  pub says : IsCommand (codes "get") words (record no_parts { name = Some name; operand = Some address })
   pub is_name : IsName name
-  pub is_operand : IsOperand address

@@ -1,4 +1,6 @@
 pub mod Name
+pub mod Pieces
+pub mod Reading
 pub mod Command
 pub mod Listing
 pub mod Part

@@ -1,7 +1,10 @@
-ghost use Rattle.std.specs.Prelude.{◌≡◌, ℕ, List, IfOk, OnErr, IsTrue, ◌↔◌, ◌∷◌, codes};
-ghost use Rattle.dm_words.specs.Command.{IsGet, IsOperand};
+ghost use Rattle.std.specs.Prelude.{◌≡◌, ℕ, List, IfOk, OnErr, ◌∷◌, codes};
+ghost use Rattle.dm_words.specs.Command.{IsGet};
+ghost use Rattle.dm_words.specs.Pieces.{parts_of};
+ghost use Rattle.dm_words.specs.Reading.{IsGetOf};
 
 use crate::is_name;
+use crate::pieces::{Pieces, read_pieces};
 use dm_types::Text;
 
 /// Bring the content of an address into the file of this name. It borrows from the words.
@@ -16,37 +19,40 @@ pub struct Get<'a> {
 pub struct BadWords;
 
 /// The command that the words are. The first word says which, and each command reads its own. There
-/// is one so far.
+/// is one so far: `get`, with `--name NAME` and an address, in any order.
 pub fn read_command(words: &[Text]) -> Result<Get<'_>, BadWords>
     ensures ok { IfOk result (λ get. IsGet words.now get.name.now get.address.now) }
     ensures err { OnErr result ((name address : List ℕ) → ¬ IsGet words.now name address) }
 {
     match words {
-        [first, operands @ ..] if first.is(b"get") => read_get(operands),
+        [first, rest @ ..] if first.is(b"get") => read_get(rest),
         _ => Err(BadWords),
     }
 }
 
-/// What stands after `get`: `--name`, a name and an address.
-fn read_get(operands: &[Text]) -> Result<Get<'_>, BadWords>
-    ensures ok { IfOk result (λ get. IsGet (codes "get" ∷ operands.now) get.name.now get.address.now) }
-    ensures err { OnErr result ((name address : List ℕ) → ¬ IsGet (codes "get" ∷ operands.now) name address) }
+/// What stands after `get`: a name and an address.
+fn read_get(words: &[Text]) -> Result<Get<'_>, BadWords>
+    ensures ok { IfOk result (λ get. IsGet (codes "get" ∷ words.now) get.name.now get.address.now) }
+    ensures err { OnErr result ((name address : List ℕ) → ¬ IsGet (codes "get" ∷ words.now) name address) }
 {
-    match operands {
-        [option, name, address]
-            if option.is(b"--name") && is_name(name.bytes()) && is_operand(address.bytes()) => {
-            Ok(Get {
-                name: name.bytes(),
-                address: address.bytes(),
-            })
-        }
-        _ => Err(BadWords),
+    match read_pieces(words) {
+        Some(pieces) => get_of(pieces),
+        None => Err(BadWords),
     }
 }
 
-/// An operand is not empty and begins with no hyphen.
-pub(crate) fn is_operand(word: &[u8]) -> bool
-    ensures { IsTrue result ↔ IsOperand word.now }
+/// A name and an address, and nothing else.
+fn get_of(pieces: Pieces<'_>) -> Result<Get<'_>, BadWords>
+    ensures ok { IfOk result (λ get. IsGetOf (parts_of pieces.entry) get.name.now get.address.now) }
+    ensures err { OnErr result ((name address : List ℕ) → ¬ IsGetOf (parts_of pieces.entry) name address) }
 {
-    !matches!(word, [] | [b'-', ..])
+    match pieces {
+        Pieces {
+            word: None,
+            name: Some(name),
+            sha256: None,
+            operand: Some(address),
+        } if is_name(name) => Ok(Get { name, address }),
+        _ => Err(BadWords),
+    }
 }

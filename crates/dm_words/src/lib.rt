@@ -6,11 +6,12 @@ mod list_lines;
 mod listing;
 mod name;
 mod part;
+mod pieces;
 mod printed;
 
 pub use command::{BadWords, Get, read_command};
 pub use list_lines::{items_full_line, journal_damaged_line, no_item_line, word_taken_line};
-pub use listing::{ListCommand, is_word, read_list_command};
+pub use listing::{ListCommand, NewItem, is_word, read_list_command};
 pub use name::{is_name, same_folded};
 pub use part::part_name;
 pub use printed::{
