@@ -1,1 +1,12 @@
+pub mod Beginning
+pub mod Beside
+pub mod Calls
+pub mod Frame
+pub mod Names
+pub mod Own
+pub mod Pieces
 pub mod Publication
+pub mod Rows
+pub mod Sound
+pub mod Standing
+pub mod Turns

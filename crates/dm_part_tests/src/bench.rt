@@ -1,0 +1,108 @@
+// How a part is put on a disk in memory, and what is read of it. Each helper asks first whether it stands.
+ghost use Rattle.std.specs.Prelude.{◌≡◌, IfOk};
+ghost use Rattle.dm_part.specs.Making.{part_place};
+
+use dm_disk::{Area, Disk, DiskFault, FailingCall, MemoryDisk, Pick, Place};
+use dm_part::{MakeFault, PartFault, digest, discard, make_part, put, settle};
+use dm_types::{DiskKind, Epoch, ItemId, Listed, NoMemory};
+use dm_words::part_name;
+use std::alloc::Global;
+use std::test::Fail;
+
+/// An empty disk, of which this call is denied.
+pub(crate) fn disk(alloc: Global, failing: Option<u64>) -> Result<MemoryDisk, NoMemory> {
+    let mut calls = Listed::new(alloc);
+    if let Some(call) = failing {
+        calls.push(FailingCall {
+            call,
+            kind: DiskKind::Denied,
+        })?;
+    }
+    MemoryDisk::new(alloc, calls, None)
+}
+
+fn place_of(alloc: Global, id: ItemId, epoch: Epoch) -> Result<Place, NoMemory>
+    ensures { IfOk result (λ place. place ≡ part_place id.0 epoch.0) }
+{
+    let name = part_name(alloc, id, epoch)?;
+    Ok(Place {
+        area: Area::Files,
+        name,
+    })
+}
+
+/// Makes a part by three calls on the disk.
+pub(crate) fn make(
+    alloc: Global,
+    disk: &mut MemoryDisk,
+    id: ItemId,
+    epoch: Epoch,
+) -> Result<Place, MakeFault> {
+    let place = match place_of(alloc, id, epoch) {
+        Ok(place) => place,
+        Err(NoMemory) => return Err(MakeFault::NoMemory),
+    };
+    match disk.length(&place) {
+        Ok(None) => make_part(alloc, disk, id, epoch),
+        Ok(Some(_)) => Err(MakeFault::Disk(DiskKind::Failed)),
+        Err(fault) => Err(MakeFault::Disk(fault.0)),
+    }
+}
+
+/// Writes to a part, by two calls.
+pub(crate) fn write(disk: &mut MemoryDisk, part: &Place, bytes: &[u8]) -> Result<(), DiskFault> {
+    match disk.length(part)? {
+        Some(_) => put(disk, part, 0, bytes),
+        None => Err(DiskFault(DiskKind::Failed)),
+    }
+}
+
+/// Syncs a part, by two calls.
+pub(crate) fn keep(disk: &mut MemoryDisk, part: &Place) -> Result<(), DiskFault> {
+    match disk.length(part)? {
+        Some(_) => settle(disk, part),
+        None => Err(DiskFault(DiskKind::Failed)),
+    }
+}
+
+/// Removes a part, by two calls.
+pub(crate) fn take_away(disk: &mut MemoryDisk, part: &Place) -> Result<(), DiskFault> {
+    match disk.length(part)? {
+        Some(_) => discard(disk, part),
+        None => Err(DiskFault(DiskKind::Failed)),
+    }
+}
+
+/// Takes a digest by a buffer of this size. The first call asks whether the part stands.
+pub(crate) fn sum(
+    alloc: Global,
+    disk: &mut MemoryDisk,
+    part: &Place,
+    total: u64,
+    room: usize,
+) -> Result<Result<[u8; 32], PartFault>, Fail> {
+    let mut buffer = Vec::new(alloc);
+    buffer.resize(room, 0)?;
+    if buffer.is_empty() {
+        return Err("no room".into());
+    }
+    match disk.length(part) {
+        Ok(Some(_)) => Ok(digest(disk, part, total, &mut buffer)),
+        Ok(None) => Err("no part".into()),
+        Err(fault) => Ok(Err(PartFault::Disk(fault.0))),
+    }
+}
+
+/// The length of what a crash leaves of a part.
+pub(crate) fn left(
+    alloc: Global,
+    disk: &MemoryDisk,
+    part: &Place,
+    pick: Pick,
+) -> Result<Option<u64>, Fail> {
+    let mut image = disk.image(alloc, pick)?;
+    match image.length(part) {
+        Ok(length) => Ok(length),
+        Err(_) => Err("not read".into()),
+    }
+}
