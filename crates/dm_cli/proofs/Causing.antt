@@ -12,6 +12,7 @@ use Rattle.dm_edge.specs.declared.fault.NetFault.{NetFault}
 use Rattle.dm_edge.specs.Faults.{wire_kind, net_count_of}
 use Rattle.dm_edge.specs.Wire.{Told, stream_of}
 use Rattle.dm_edge.specs.Reply.{IsWhole, ContentBroke}
+use Rattle.dm_edge.specs.declared.wanted.Wanted.TheVariants as asks
 use Rattle.dm_disk_model.specs.declared.place.Place.{Place}
 use Rattle.dm_disk_model.specs.Disk.{DiskState}
 use Rattle.dm_reply.specs.Faults.{cause_kind}
@@ -46,7 +47,7 @@ net_failed counts before first after broke later counted failed = by_kind failed
 
 module _ (before after : WireFault → ℕ) (disk : DiskState) (name stream content : List ℕ) (free : IsTaken disk name → ⊥) where
   -- a cause that ends the content is want of memory, a fault that was counted, or one of the content
-  pub content_met : (broke : Cause) → ContentBroke stream content broke → IfSome (cause_kind broke) (λ kind. Rose (before kind) (after kind))
+  pub content_met : (broke : Cause) → ContentBroke asks.Whole stream content broke → IfSome (cause_kind broke) (λ kind. Rose (before kind) (after kind))
       → (broke ≡ cause.Memory) ⊎ OnWire after disk name stream broke
   content_met cause.NetFailed says rose = inr (inl (record { kind = wire.Failed; counted = refl; rose = rose_since 0 (before wire.Failed) (after wire.Failed) (omega arith) rose; is = refl }))
   content_met cause.NetTimeout says rose = inr (inl (record { kind = wire.Timeout; counted = refl; rose = rose_since 0 (before wire.Timeout) (after wire.Timeout) (omega arith) rose; is = refl }))
@@ -88,7 +89,7 @@ module _ (target part : Place) (name : List ℕ) (old new : DiskState) (before f
 
 module _ (target : Place) (name : List ℕ) (old copied new : DiskState) (before first after : DiskKind → ℕ) (Causes : Cause → Type 0) (stream content : List ℕ) where
   -- what was made of a whole copy says how the get ended
-  pub finish_says : (ending : Ending) → (IsTaken old name → ⊥) → IsWhole stream content → IsLeft target old copied → NoneFell before first
+  pub finish_says : (ending : Ending) → (IsTaken old name → ⊥) → IsWhole asks.Whole stream content → IsLeft target old copied → NoneFell before first
       → FinishSays target name copied new first after content ending → OnStream target name old new before after Causes stream ending
   finish_says (Complete line) free whole left later says = record { content = content; whole = whole; free = free; file = says.0; line = says.1; durable = says.2 }
   finish_says (DiskFailed kind) free whole left later says = (

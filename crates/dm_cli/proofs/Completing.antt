@@ -7,6 +7,7 @@ use Rattle.dm_policy.specs.declared.cause.Cause.{Cause}
 use Rattle.dm_edge.specs.declared.fault.NetFault.{NetFault}
 use Rattle.dm_edge.specs.Wire.{Closed}
 use Rattle.dm_edge.specs.Reply.{IsWhole}
+use Rattle.dm_edge.specs.declared.wanted.Wanted.TheVariants as asks
 use Rattle.dm_disk_model.specs.Disk.{DiskState}
 use Rattle.dm_cli.specs.declared.ending.Ending.{Ending}
 use Rattle.dm_cli.specs.declared.ending.Ending.TheVariants.{Complete, Interrupted, BadWords, BadAddress, DiskFailed, NoMemory}
@@ -27,14 +28,14 @@ last_is : (before led after : List Closed) (a b : Closed) → after ≡ (before 
 last_is before led after a b is last = same_last (before ++ led) (before ++ last.earlier) a b (sym is ∙ last.is ∙ sym (append_assoc before last.earlier (b ∷ [])))
 
 -- a whole reply under a free name meets no cause of a content
-not_content : (disk : DiskState) (name stream content : List ℕ) (broke : Cause) → (IsTaken disk name → ⊥) → IsWhole stream content → MeetsContent disk name stream broke → ⊥
+not_content : (disk : DiskState) (name stream content : List ℕ) (broke : Cause) → (IsTaken disk name → ⊥) → IsWhole asks.Whole stream content → MeetsContent disk name stream broke → ⊥
 not_content disk name stream content broke free whole (taken is stands begins) = free stands
 not_content disk name stream content broke free whole (short some wanted is ended untaken) = not_short stream content some wanted whole ended
 not_content disk name stream content broke free whole (unframed some is bad untaken) = not_unframed stream content some whole bad
 not_content disk name stream content broke free whole (overfull some is more untaken) = not_overfull stream content some whole more
 
 -- no reason is met
-not_met : (before after : NetFault → ℕ) (at : Address) (followed : ℕ) (disk : DiskState) (name stream content : List ℕ) (broke : Cause) → NoneRose before after → (IsTaken disk name → ⊥) → IsWhole stream content
+not_met : (before after : NetFault → ℕ) (at : Address) (followed : ℕ) (disk : DiskState) (name stream content : List ℕ) (broke : Cause) → NoneRose before after → (IsTaken disk name → ⊥) → IsWhole asks.Whole stream content
     → Meets (IsNetFault before after) at followed disk name stream broke → ⊥
 not_met before after at followed disk name stream content broke unfailed free whole (inl failed) = unfailed failed.kind failed.rose
 not_met before after at followed disk name stream content broke unfailed free whole (inr (inl head)) = not_head at followed stream content broke whole head
@@ -56,5 +57,5 @@ completes words old new disk_before disk_after net_before net_after before after
       | inr one ↦
           absurd (not_met net_before net_after ran.at (length ran.led) old says.name one.connection.stream content one.says.0.broke net
           (λ stands. free (subst (IsTaken old) (one_get words says.name says.text name text says.is is) stands))
-          (subst (λ (c : Closed). IsWhole c.stream content) (sym (last_is before ran.led after one.connection connection one.last last)) whole) one.says.0.met)
+          (subst (λ (c : Closed). IsWhole asks.Whole c.stream content) (sym (last_is before ran.led after one.connection connection one.last last)) whole) one.says.0.met)
     ]

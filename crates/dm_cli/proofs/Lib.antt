@@ -4,6 +4,7 @@ pub mod Completing
 pub mod Copied
 pub mod Endings
 pub mod Following
+pub mod Heads
 pub mod Publishing
 pub mod Reaching
 pub mod Running

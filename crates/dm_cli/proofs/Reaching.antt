@@ -18,7 +18,7 @@ use Rattle.std.specs.Char.{to_ascii_lowercase}
 use Rattle.std.proofs.lemmas.List.{map-append}
 use Rattle.dm_words.specs.Name.{IsName, fold_case, part_ending}
 use Rattle.dm_words.specs.Part.{part_name}
-use Rattle.dm_reply.specs.Content.{Reading}
+use Rattle.dm_reply.specs.Content.{Reader}
 use Rattle.dm_request.specs.Request.{request_of}
 use Rattle.dm_cli.specs.declared.ending.Ending.{Ending}
 use Rattle.dm_cli.specs.Causes.{IsNetFault, OnWire, Meets}
@@ -27,7 +27,7 @@ use Rattle.dm_cli.specs.Get.{file_place, the_part, OnStream, GetSays, IsLast, Ne
 use Rattle.dm_cli.proofs.Causing.{net_failed}
 use Rattle.dm_cli.proofs.Endings.{says_by, sent_whole}
 
-module _ (target : Place) (name : List ℕ) (first : Address) (before between after : List Closed) (asked : Asked) (told : Told) (reading : Reading) (reached : IsReached first before between asked told reading)
+module _ (target : Place) (name : List ℕ) (first : Address) (before between after : List Closed) (asked : Asked) (told : Told) (reader : Reader) (reached : IsReached first before between asked told reader)
     (new_asked : Asked) (now : Told) (same : new_asked ≡ asked) (sent : now.sent ≡ told.sent) (closed : after ≡ between ++ closed_of new_asked now ∷ []) where
   behind : after ≡ (before ++ reached.led) ++ closed_of new_asked now ∷ []
   behind = closed ∙ ap (λ (c : List Closed). c ++ closed_of new_asked now ∷ []) reached.closed

@@ -6,6 +6,7 @@ use Rattle.dm_disk_model.specs.Disk.{DiskState, Image, History}
 use Rattle.dm_disk_model.specs.Names.{image_at, NeverStands, LeavesNothingOr, Throughout}
 use Rattle.dm_disk_model.proofs.Naming.{absent_leaves, throughout_weaker}
 use Rattle.dm_edge.specs.Reply.{IsWhole}
+use Rattle.dm_edge.specs.declared.wanted.Wanted.TheVariants as asks
 use Rattle.dm_cli.specs.Get.{NeverPartial, ImageHasWhole}
 
 -- a target that never stands is never partial
@@ -13,7 +14,7 @@ pub never_partial : (target : Place) (stream : List ℕ) (old new : History) →
 never_partial target stream old new never = throughout_weaker old new (NeverStands target) (NeverPartial target stream) (λ disk absent image leaves. inl (absent_leaves target disk absent image leaves)) never
 
 -- nor is one that has nothing, or the whole content
-pub whole_or_nothing : (target : Place) (stream content : List ℕ) (old new : History) → IsWhole stream content → Throughout old new (LeavesNothingOr target content) → Throughout old new (NeverPartial target stream)
+pub whole_or_nothing : (target : Place) (stream content : List ℕ) (old new : History) → IsWhole asks.Whole stream content → Throughout old new (LeavesNothingOr target content) → Throughout old new (NeverPartial target stream)
 whole_or_nothing target stream content old new whole all = throughout_weaker old new (LeavesNothingOr target content) (NeverPartial target stream) weaker all where
   weaker : (disk : DiskState) → LeavesNothingOr target content disk → NeverPartial target stream disk
   weaker disk leaves image may = by_image image (leaves image may) where

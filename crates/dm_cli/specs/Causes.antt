@@ -13,6 +13,7 @@ use Rattle.dm_edge.specs.declared.fault.WireFault.{WireFault}
 use Rattle.dm_edge.specs.declared.fault.WireFault.TheVariants as wire
 use Rattle.dm_edge.specs.declared.framing.Framing.{Framing}
 use Rattle.dm_edge.specs.Faults.{wire_kind, net_kind}
+use Rattle.dm_edge.specs.declared.wanted.Wanted.TheVariants as asks
 use Rattle.dm_edge.specs.Reply.{BeginsContent, IsNinthInterim, ComesToBroke, IsShort, IsBadlyChunked, IsOverfull, most_content}
 use Rattle.dm_disk_model.specs.Folder.{names_of}
 use Rattle.dm_disk_model.specs.Disk.{DiskState}
@@ -60,7 +61,7 @@ pub record HasContent (stream : List ℕ) : Type 0 where
   pub head : ResponseHead
   pub framing : Framing
   pub rest : List ℕ
-  pub begins : BeginsContent stream head framing rest
+  pub begins : BeginsContent asks.Whole stream head framing rest
 
 -- a file stands whose name differs from this one at most in the case of ASCII letters
 pub record IsTaken (disk : DiskState) (name : List ℕ) : Type 0 where
@@ -71,16 +72,16 @@ pub record IsTaken (disk : DiskState) (name : List ℕ) : Type 0 where
 -- What a cause says that ends the get before any content: of the whole stream, of the address that it was asked for, and of how many redirects were followed to there.
 pub data MeetsHead (at : Address) (followed : ℕ) (stream : List ℕ) (broke : Cause) : Type 0 where
   ninth : IsNinthInterim stream broke → MeetsHead at followed stream broke
-  refused : ComesToBroke stream broke → MeetsHead at followed stream broke
+  refused : ComesToBroke asks.Whole stream broke → MeetsHead at followed stream broke
   nowhere : (location : List ℕ) → broke ≡ cause.BadLocation → HasRedirect stream location → IsNowhere at location → MeetsHead at followed stream broke
   too_many : (location : List ℕ) → broke ≡ cause.TooManyRedirects → HasRedirect stream location → followed ≡ most_redirects → MeetsHead at followed stream broke
 
 -- What a cause says that ends the get at its content: of the names before, and of the whole stream, which is looked at only where the name isn't taken.
 pub data MeetsContent (disk : DiskState) (name stream : List ℕ) (broke : Cause) : Type 0 where
   taken : broke ≡ cause.NamesTaken → IsTaken disk name → HasContent stream → MeetsContent disk name stream broke
-  short : (content : List ℕ) (wanted : Option ℕ) → broke ≡ cause.ContentShort (length content) wanted → IsShort stream content wanted → (IsTaken disk name → ⊥) → MeetsContent disk name stream broke
-  unframed : (content : List ℕ) → broke ≡ cause.BadFraming → IsBadlyChunked stream content → (IsTaken disk name → ⊥) → MeetsContent disk name stream broke
-  overfull : (content : List ℕ) → broke ≡ cause.TooLarge (most_content + 1) → IsOverfull stream content → (IsTaken disk name → ⊥) → MeetsContent disk name stream broke
+  short : (content : List ℕ) (told : Option ℕ) → broke ≡ cause.ContentShort (length content) told → IsShort asks.Whole stream content told → (IsTaken disk name → ⊥) → MeetsContent disk name stream broke
+  unframed : (content : List ℕ) → broke ≡ cause.BadFraming → IsBadlyChunked asks.Whole stream content → (IsTaken disk name → ⊥) → MeetsContent disk name stream broke
+  overfull : (content : List ℕ) → broke ≡ cause.TooLarge (most_content + 1) → IsOverfull asks.Whole stream content → (IsTaken disk name → ⊥) → MeetsContent disk name stream broke
 
 -- What a cause says that ends the get on a wire whose content is read: a call on it failed, or what the content says.
 abbrev pub OnWire : (WireFault → ℕ) → DiskState → List ℕ → List ℕ → Cause → Type 0

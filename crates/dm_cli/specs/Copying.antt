@@ -6,8 +6,9 @@ use Rattle.dm_edge.specs.Wire.{Told, stream_of}
 use Rattle.dm_disk_model.specs.declared.place.Place.{Place}
 use Rattle.dm_disk_model.specs.Disk.{DiskState, bytes_at}
 use Rattle.dm_edge.specs.Reply.{IsWhole, ContentBroke, most_content}
+use Rattle.dm_edge.specs.declared.wanted.Wanted.TheVariants as asks
 use Rattle.dm_reply.specs.Faults.{cause_kind}
-use Rattle.dm_reply.specs.Content.{Reading, HasRead}
+use Rattle.dm_reply.specs.Content.{Reader, HasRead}
 use Rattle.dm_cli.specs.declared.copying.Landed.{Landed}
 use Rattle.dm_cli.specs.declared.copying.Landed.TheVariants.{More, End}
 use Rattle.dm_cli.specs.declared.copying.Stopped.{Stopped}
@@ -24,39 +25,39 @@ stopped_disk (Broke broke) = None
 stopped_disk (Disk kind) = Some kind
 
 -- the piece was read and is in the part, behind the content so far
-pub record Lands (told : Told) (reading : Reading) (disk : DiskState) (part : Place) (content : List ℕ) (count : ℕ) : Type 0 where
+pub record Lands (told : Told) (reader : Reader) (disk : DiskState) (part : Place) (content : List ℕ) (count : ℕ) : Type 0 where
   pub piece : List ℕ
   pub counts : length piece ≡ count
-  pub read : HasRead told.given reading (content ++ piece)
+  pub read : HasRead asks.Whole told.given reader (content ++ piece)
   pub written : bytes_at disk part ≡ Some (content ++ piece)
 
 -- all was read and is in the part
 pub record IsCopied (told : Told) (disk : DiskState) (part : Place) (content : List ℕ) : Type 0 where
-  pub whole : IsWhole (stream_of told) content
+  pub whole : IsWhole asks.Whole (stream_of told) content
   pub written : bytes_at disk part ≡ Some content
 
 -- what each answer says of the content, the part and the stream
-abbrev pub LandedSays : Told → Reading → DiskState → Place → Result Landed Stopped → List ℕ → Type 0
-LandedSays told reading disk part (Ok (More count)) content = Lands told reading disk part content count
-LandedSays told reading disk part (Ok End) content = IsCopied told disk part content
-LandedSays told reading disk part (Err (Broke broke)) content = ContentBroke (stream_of told) content broke
-LandedSays told reading disk part (Err (Disk kind)) content = Unit {0}
+abbrev pub LandedSays : Told → Reader → DiskState → Place → Result Landed Stopped → List ℕ → Type 0
+LandedSays told reader disk part (Ok (More count)) content = Lands told reader disk part content count
+LandedSays told reader disk part (Ok End) content = IsCopied told disk part content
+LandedSays told reader disk part (Err (Broke broke)) content = ContentBroke asks.Whole (stream_of told) content broke
+LandedSays told reader disk part (Err (Disk kind)) content = Unit {0}
 
 -- the reader moves on by what was written, and never past the most that a content has
-abbrev pub Moves : Reading → Reading → Result Landed Stopped → Type 0
-Moves old new (Ok (More count)) = (0 < count) × (new.given ≡ old.given + count) × (new.given ≤ most_content) × (new.broke ≡ None)
+abbrev pub Moves : Reader → Reader → Result Landed Stopped → Type 0
+Moves old new (Ok (More count)) = (0 < count) × (new.reading.given ≡ old.reading.given + count) × (new.reading.given ≤ most_content) × (new.reading.broke ≡ None)
 Moves old new (Ok End) = Unit {0}
 Moves old new (Err stopped) = Unit {0}
 
 -- the content so far was read, and the part holds it
-pub record CopiedSoFar (told : Told) (reading : Reading) (disk : DiskState) (part : Place) (at : ℕ) : Type 0 where
+pub record CopiedSoFar (told : Told) (reader : Reader) (disk : DiskState) (part : Place) (at : ℕ) : Type 0 where
   pub content : List ℕ
   pub counts : at ≡ length content
-  pub read : HasRead told.given reading content
+  pub read : HasRead asks.Whole told.given reader content
   pub written : bytes_at disk part ≡ Some content
 
 -- what a whole copy says: the content of the reply is in the part, whole and of this length, or the stream ended it otherwise
 abbrev pub CopySays : Told → DiskState → Place → Result ℕ Stopped → Type 0
 CopySays told disk part (Ok count) = (content : List ℕ) × IsCopied told disk part content × (length content ≡ count)
-CopySays told disk part (Err (Broke broke)) = (content : List ℕ) × ContentBroke (stream_of told) content broke
+CopySays told disk part (Err (Broke broke)) = (content : List ℕ) × ContentBroke asks.Whole (stream_of told) content broke
 CopySays told disk part (Err (Disk kind)) = Unit {0}

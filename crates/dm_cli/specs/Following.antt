@@ -7,11 +7,12 @@ use Rattle.dm_edge.specs.declared.fault.NetFault.{NetFault}
 use Rattle.dm_edge.specs.declared.fault.WireFault.{WireFault}
 use Rattle.dm_edge.specs.Wire.{Asked, Told, Closed, stream_of}
 use Rattle.dm_edge.specs.Reply.{IsNinthInterim, ComesToBroke}
+use Rattle.dm_edge.specs.declared.wanted.Wanted.TheVariants as asks
 use Rattle.dm_reply.specs.declared.head.Kind.{Kind}
 use Rattle.dm_reply.specs.declared.head.Kind.TheVariants as kind
 use Rattle.dm_reply.specs.declared.head.HeadFault.{HeadFault}
 use Rattle.dm_reply.specs.declared.head.HeadFault.TheVariants as fault
-use Rattle.dm_reply.specs.Content.{Reading, HasRead}
+use Rattle.dm_reply.specs.Content.{Reader, HasRead}
 use Rattle.dm_request.specs.Fault.{IsNext}
 use Rattle.dm_request.specs.Request.{request_of}
 use Rattle.dm_cli.specs.declared.follow.NoContent.{NoContent}
@@ -25,13 +26,13 @@ head_cause (fault.Broke broke) = broke
 head_cause fault.NoMemory = cause.Memory
 
 -- what the head's kind says of the wire: content is read from it, or it leads elsewhere
-abbrev pub KindFound : Told → Reading → Kind → Type 0
-KindFound told reading kind.Content = HasRead told.given reading []
-KindFound told reading (kind.Redirect location) = HasRedirect (stream_of told) location
+abbrev pub KindFound : Told → Reader → Kind → Type 0
+KindFound told reader kind.Content = HasRead asks.Whole told.given reader []
+KindFound told reader (kind.Redirect location) = HasRedirect (stream_of told) location
 
 -- the cause is that of the stream's head
 abbrev pub IsOfHead : List ℕ → Cause → Type 0
-IsOfHead stream broke = IsNinthInterim stream broke ⊎ ComesToBroke stream broke
+IsOfHead stream broke = IsNinthInterim stream broke ⊎ ComesToBroke asks.Whole stream broke
 
 -- memory was wanting, a call on the wire failed, or the stream's head has the cause
 abbrev pub TalkBroke : (WireFault → ℕ) → List ℕ → Cause → Type 0
@@ -46,10 +47,10 @@ abbrev pub SentBy : {T : Type 0} → (WireFault → ℕ) → List ℕ → List �
 SentBy counts request sent result = MatchResult result (λ _. sent ≡ request) (SentUntil (CutsWire counts) request sent)
 
 -- a connection for this address was sent the request, its head was read, and content follows
-pub record IsAnswered (at : Address) (request : List ℕ) (asked : Asked) (told : Told) (reading : Reading) : Type 0 where
+pub record IsAnswered (at : Address) (request : List ℕ) (asked : Asked) (told : Told) (reader : Reader) : Type 0 where
   pub asked_is : asked ≡ asked_for at
   pub sent : told.sent ≡ request
-  pub read : HasRead told.given reading []
+  pub read : HasRead asks.Whole told.given reader []
 
 -- one connection was made and closed, and its stream leads elsewhere
 pub record IsRedirected (at : Address) (request : List ℕ) (before after : List Closed) (location : List ℕ) : Type 0 where
@@ -96,13 +97,13 @@ pub record IsLed (first : Address) (before now : List Closed) (at : Address) (fo
   pub leads : Led first led at
 
 -- At most ten connections led to one that stands, whose head was read, and content follows.
-pub record IsReached (first : Address) (before now : List Closed) (asked : Asked) (told : Told) (reading : Reading) : Type 0 where
+pub record IsReached (first : Address) (before now : List Closed) (asked : Asked) (told : Told) (reader : Reader) : Type 0 where
   pub led : List Closed
   pub few : length led ≤ most_redirects
   pub at : Address
   pub leads : Led first led at
   pub closed : now ≡ before ++ led
-  pub answered : IsAnswered at (request_of at None) asked told reading
+  pub answered : IsAnswered at (request_of at None) asked told reader
 
 -- No content was reached, by this cause.
 pub record IsStopped (first : Address) (net_before net_after : NetFault → ℕ) (before after : List Closed) (broke : Cause) : Type 0 where

@@ -7,6 +7,7 @@ use Rattle.dm_policy.specs.declared.cause.Cause.{Cause}
 use Rattle.dm_edge.specs.declared.fault.NetFault.{NetFault}
 use Rattle.dm_edge.specs.Wire.{Closed}
 use Rattle.dm_edge.specs.Reply.{IsWhole}
+use Rattle.dm_edge.specs.declared.wanted.Wanted.TheVariants as asks
 use Rattle.dm_disk_model.specs.declared.place.Area.TheVariants.{Files}
 use Rattle.dm_disk_model.specs.declared.place.Place.{Place}
 use Rattle.dm_disk_model.specs.Disk.{DiskState, Image, bytes_at, MayLeave}
@@ -34,7 +35,7 @@ IsLeft target old new = bytes_at new target ≡ bytes_at old target
 -- the file stands at its place with the reply's content, whole, and no file stood that would be taken for one of its name
 pub record IsBrought (target : Place) (name : List ℕ) (old new : DiskState) (stream printed : List ℕ) : Type 0 where
   pub content : List ℕ
-  pub whole : IsWhole stream content
+  pub whole : IsWhole asks.Whole stream content
   pub free : IsTaken old name → ⊥
   pub file : bytes_at new target ≡ Some content
   pub line : printed ≡ complete_line (length content) name
@@ -44,7 +45,7 @@ pub record IsBrought (target : Place) (name : List ℕ) (old new : DiskState) (s
 -- the place has the reply's content, whole, and no file stood that would be taken for one of its name
 pub record HasWhole (target : Place) (name : List ℕ) (old new : DiskState) (stream : List ℕ) : Type 0 where
   pub content : List ℕ
-  pub whole : IsWhole stream content
+  pub whole : IsWhole asks.Whole stream content
   pub free : IsTaken old name → ⊥
   pub file : bytes_at new target ≡ Some content
 
@@ -100,7 +101,7 @@ pub record IsLast (before after : List Closed) (connection : Closed) : Type 0 wh
 -- the image has the reply's content at this place, whole
 pub record ImageHasWhole (target : Place) (image : Image) (stream : List ℕ) : Type 0 where
   pub content : List ℕ
-  pub whole : IsWhole stream content
+  pub whole : IsWhole asks.Whole stream content
   pub file : image_at image target ≡ Some content
 
 -- A crash now leaves the place with nothing, or with the content of the stream's reply, whole.

@@ -4,6 +4,7 @@ use Rattle.httparse.specs.Grammar.{ResponseHead}
 use Rattle.dm_types.specs.declared.address.Address.{Address}
 use Rattle.dm_edge.specs.Wire.{Asked, Closed}
 use Rattle.dm_edge.specs.Reply.{BeginsRedirect}
+use Rattle.dm_edge.specs.declared.wanted.Wanted.TheVariants as asks
 use Rattle.dm_request.specs.Fault.{IsNext}
 use Rattle.dm_request.specs.Request.{request_of}
 
@@ -18,7 +19,7 @@ asked_for address = record { address = address; id = record { 0 = 1 }; attempt =
 -- the stream is a redirect with this Location
 pub record HasRedirect (stream location : List ℕ) : Type 0 where
   pub head : ResponseHead
-  pub begins : BeginsRedirect stream head location
+  pub begins : BeginsRedirect asks.Whole stream head location
 
 -- the Location leads to no address
 abbrev pub IsNowhere : Address → List ℕ → Type 0

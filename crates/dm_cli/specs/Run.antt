@@ -6,6 +6,7 @@ use Rattle.dm_types.specs.declared.address.Address.{Address}
 use Rattle.dm_edge.specs.declared.fault.NetFault.{NetFault}
 use Rattle.dm_edge.specs.Wire.{Closed}
 use Rattle.dm_edge.specs.Reply.{IsWhole}
+use Rattle.dm_edge.specs.declared.wanted.Wanted.TheVariants as asks
 use Rattle.dm_disk_model.specs.Disk.{DiskState}
 use Rattle.dm_words.specs.Command.{IsGet}
 use Rattle.dm_request.specs.Fault.{IsNoAddress, IsRead}
@@ -79,5 +80,5 @@ abbrev pub Completes : List (List ℕ) → DiskState → (DiskKind → ℕ) → 
 Completes words old disk_before disk_after net_before net_after before after ending =
     NoneRose disk_before disk_after → NoneRose net_before net_after
     → (name text : List ℕ) → IsGet words name text → (IsTaken old name → ⊥)
-    → (connection : Closed) → IsLast before after connection → (content : List ℕ) → IsWhole connection.stream content
+    → (connection : Closed) → IsLast before after connection → (content : List ℕ) → IsWhole asks.Whole connection.stream content
     → IsCompleteOrMemory ending

@@ -3,6 +3,7 @@ ghost use Rattle.std.specs.Prelude.{◌≡◌, ◌<◌, ℕ, List, [], Some, Non
 ghost use Rattle.dm_types.specs.Faults.{HasCause};
 ghost use Rattle.dm_disk_model.specs.Disk.{now, Stands, bytes_at};
 ghost use Rattle.dm_disk_model.specs.Names.{KeepsOthers};
+ghost use Rattle.dm_edge.specs.declared.wanted.Wanted.TheVariants as asks;
 ghost use Rattle.dm_reply.specs.Content.{HasRead};
 ghost use Rattle.dm_cli.specs.Copying.{LandedSays, Moves, CopySays, stopped_wire, stopped_disk};
 
@@ -39,9 +40,9 @@ fn land_next<D: Disk, W: Wire>(
     buffer: &mut [u8],
 ) -> Result<Landed, Stopped>
     requires room { 0 < length buffer.old }
-    requires unbroken { reader.old.broke ≡ None }
+    requires unbroken { reader.old.reading.broke ≡ None }
     requires stands { D.tells → Stands (now (D.history disk.old)) part.now }
-    ensures says { D.tells → W.tells → (content : List ℕ) → HasRead (W.told wire.old).given reader.old content
+    ensures says { D.tells → W.tells → (content : List ℕ) → HasRead asks.Whole (W.told wire.old).given reader.old content
         → bytes_at (now (D.history disk.old)) part.now ≡ Some content → at ≡ length content
         → LandedSays (W.told wire.new) reader.new (now (D.history disk.new)) part.now result content }
     ensures moves { Moves reader.old reader.new result }
@@ -72,10 +73,10 @@ pub fn copy_content<D: Disk, W: Wire>(
     buffer: &mut [u8],
 ) -> Result<u64, Stopped>
     requires room { 0 < length buffer.old }
-    requires unread { reader.old.given ≡ 0 }
-    requires unbroken { reader.old.broke ≡ None }
+    requires unread { reader.old.reading.given ≡ 0 }
+    requires unbroken { reader.old.reading.broke ≡ None }
     requires made { D.tells → bytes_at (now (D.history disk.old)) part.now ≡ Some [] }
-    ensures says { D.tells → W.tells → HasRead (W.told wire.old).given reader.old []
+    ensures says { D.tells → W.tells → HasRead asks.Whole (W.told wire.old).given reader.old []
         → CopySays (W.told wire.new) (now (D.history disk.new)) part.now result }
     ensures stands { D.tells → IfOk result (λ _. Stands (now (D.history disk.new)) part.now) }
     ensures keeps { D.tells → KeepsOthers part.now (D.history disk.old) (D.history disk.new) }

@@ -3,6 +3,7 @@ ghost use Rattle.std.specs.Prelude.{◌≡◌, ◌⊎◌, ◌<◌, ◌≤◌, No
 ghost use Rattle.dm_types.specs.Faults.{NoneFell};
 ghost use Rattle.dm_edge.specs.Wire.{stream_of, IsFresh};
 ghost use Rattle.dm_policy.specs.declared.cause.Cause.TheVariants as cause;
+ghost use Rattle.dm_edge.specs.declared.wanted.Wanted.TheVariants as asks;
 ghost use Rattle.dm_reply.specs.Content.{unread};
 ghost use Rattle.dm_request.specs.Request.{request_of};
 ghost use Rattle.dm_cli.specs.Redirects.{most_redirects, asked_for};
@@ -12,7 +13,7 @@ ghost use Rattle.dm_cli.specs.Following.{KindFound, TalkBroke, SentBy, IsAnswere
 
 use dm_edge::{Net, NetFault, Wire, WireFault};
 use dm_policy::Cause;
-use dm_reply::{HeadFault, Kind, ReplyReader};
+use dm_reply::{HeadFault, Kind, ReplyReader, Wanted};
 use dm_request::{AddressFault, next_address, request_text};
 use dm_types::{Address, Attempt, ItemId, NoMemory, Text};
 use std::alloc::Global;
@@ -88,9 +89,9 @@ fn talk<W: Wire>(
     request: &[u8],
     reader: &mut ReplyReader,
 ) -> Result<Kind, Cause>
-    requires unread { reader.old ≡ unread }
+    requires unread { reader.old ≡ unread asks.Whole }
     ensures kind { W.tells → IsFresh (W.told wire.old) → IfOk result (KindFound (W.told wire.new) reader.new) }
-    ensures ready { IfOk result (λ _. (reader.new.given ≡ 0) × (reader.new.broke ≡ None)) }
+    ensures ready { IfOk result (λ _. (reader.new.reading.given ≡ 0) × (reader.new.reading.broke ≡ None)) }
     ensures broke { W.tells → IsFresh (W.told wire.old)
         → IfErr result (TalkBroke (W.faults wire.new) (stream_of (W.told wire.new))) }
     ensures sent { W.tells → IsFresh (W.told wire.old) → SentBy (W.faults wire.new) request.now (W.told wire.new).sent result }
@@ -115,11 +116,11 @@ fn hear<N: Net>(
     aim: &Aim,
     reader: ReplyReader,
 ) -> Result<Answered<N::W>, NoContent>
-    requires unread { reader ≡ unread }
+    requires unread { reader ≡ unread asks.Whole }
     ensures content { N.tells → IsFresh (N.W.told wire) → N.W.asked wire ≡ asked_for aim.now.address
         → IfOk result (λ answered. IsAnswered aim.now.address aim.now.request (N.W.asked answered.wire) (N.W.told answered.wire) answered.reader) }
     ensures closed { IfOk result (λ _. N.closed net.new ≡ N.closed net.old) }
-    ensures ready { IfOk result (λ answered. (answered.reader.given ≡ 0) × (answered.reader.broke ≡ None)) }
+    ensures ready { IfOk result (λ answered. (answered.reader.reading.given ≡ 0) × (answered.reader.reading.broke ≡ None)) }
     ensures none { N.tells → IsFresh (N.W.told wire) → N.W.asked wire ≡ asked_for aim.now.address
         → IfErr result (NoneSays aim.now.address aim.now.request (N.faults net.old) (N.faults net.new) (N.closed net.old) (N.closed net.new)) }
     ensures later { NoneFell (N.faults net.old) (N.faults net.new) }
@@ -144,12 +145,12 @@ fn ask<N: Net>(alloc: Global, net: &mut N, aim: &Aim) -> Result<Answered<N::W>, 
     ensures content { N.tells
         → IfOk result (λ answered. IsAnswered aim.now.address aim.now.request (N.W.asked answered.wire) (N.W.told answered.wire) answered.reader) }
     ensures closed { IfOk result (λ _. N.closed net.new ≡ N.closed net.old) }
-    ensures ready { IfOk result (λ answered. (answered.reader.given ≡ 0) × (answered.reader.broke ≡ None)) }
+    ensures ready { IfOk result (λ answered. (answered.reader.reading.given ≡ 0) × (answered.reader.reading.broke ≡ None)) }
     ensures none { N.tells
         → IfErr result (NoneSays aim.now.address aim.now.request (N.faults net.old) (N.faults net.new) (N.closed net.old) (N.closed net.new)) }
     ensures later { NoneFell (N.faults net.old) (N.faults net.new) }
 {
-    let reader = match ReplyReader::new(alloc) {
+    let reader = match ReplyReader::new(alloc, Wanted::Whole) {
         Ok(reader) => reader,
         Err(NoMemory) => return Err(NoContent::Broke(Cause::Memory)),
     };
@@ -209,7 +210,7 @@ pub fn follow<N: Net>(alloc: Global, net: &mut N, first: Aim) -> Result<Answered
     requires request { first.request ≡ request_of first.address None }
     ensures reached { N.tells
         → IfOk result (λ answered. IsReached first.address (N.closed net.old) (N.closed net.new) (N.W.asked answered.wire) (N.W.told answered.wire) answered.reader) }
-    ensures ready { IfOk result (λ answered. (answered.reader.given ≡ 0) × (answered.reader.broke ≡ None)) }
+    ensures ready { IfOk result (λ answered. (answered.reader.reading.given ≡ 0) × (answered.reader.reading.broke ≡ None)) }
     ensures stopped { N.tells
         → IfErr result (IsStopped first.address (N.faults net.old) (N.faults net.new) (N.closed net.old) (N.closed net.new)) }
     ensures later { NoneFell (N.faults net.old) (N.faults net.new) }

@@ -5,6 +5,7 @@ ghost use Rattle.dm_disk_model.specs.Faults.{names_kind};
 ghost use Rattle.dm_disk_model.specs.Disk.{now, bytes_at, Stands};
 ghost use Rattle.dm_disk_model.specs.Names.{NeverStands, LeavesNothingOr, Throughout};
 ghost use Rattle.dm_edge.specs.Wire.{stream_of};
+ghost use Rattle.dm_edge.specs.declared.wanted.Wanted.TheVariants as asks;
 ghost use Rattle.dm_reply.specs.Content.{HasRead};
 ghost use Rattle.dm_words.specs.Name.{IsName, fold_case};
 ghost use Rattle.dm_request.specs.Request.{request_of};
@@ -123,12 +124,12 @@ fn store_free<D: Disk, W: Wire>(
     requires room { 0 < length buffer.old }
     requires apart { part.now.name ≢ target.now.name }
     requires one_area { target.now.area ≡ part.now.area }
-    requires unread { reader.old.given ≡ 0 }
-    requires unbroken { reader.old.broke ≡ None }
-    ensures says { D.tells → W.tells → HasRead (W.told wire.old).given reader.old [] → (IsTaken (now (D.history disk.old)) name.now → ⊥)
+    requires unread { reader.old.reading.given ≡ 0 }
+    requires unbroken { reader.old.reading.broke ≡ None }
+    ensures says { D.tells → W.tells → HasRead asks.Whole (W.told wire.old).given reader.old [] → (IsTaken (now (D.history disk.old)) name.now → ⊥)
         → OnStream target.now name.now (now (D.history disk.old)) (now (D.history disk.new)) (D.faults disk.old) (D.faults disk.new)
         (OnWire (W.faults wire.new) (now (D.history disk.old)) name.now (stream_of (W.told wire.new))) (stream_of (W.told wire.new)) result }
-    ensures partial { D.tells → W.tells → HasRead (W.told wire.old).given reader.old [] → NeverStands target.now (now (D.history disk.old))
+    ensures partial { D.tells → W.tells → HasRead asks.Whole (W.told wire.old).given reader.old [] → NeverStands target.now (now (D.history disk.old))
         → Throughout (D.history disk.old) (D.history disk.new) (NeverPartial target.now (stream_of (W.told wire.new))) }
     ensures others { D.tells → LeavesOthers part.now target.now (now (D.history disk.old)) (now (D.history disk.new)) }
     ensures sent { W.tells → (W.told wire.new).sent ≡ (W.told wire.old).sent }
@@ -161,12 +162,12 @@ fn store<D: Disk, W: Wire>(
     requires apart { part.now.name ≢ target.now.name }
     requires one_area { target.now.area ≡ part.now.area }
     requires target { target.now ≡ file_place name.now }
-    requires unread { reader.old.given ≡ 0 }
-    requires unbroken { reader.old.broke ≡ None }
-    ensures says { D.tells → W.tells → HasRead (W.told wire.old).given reader.old []
+    requires unread { reader.old.reading.given ≡ 0 }
+    requires unbroken { reader.old.reading.broke ≡ None }
+    ensures says { D.tells → W.tells → HasRead asks.Whole (W.told wire.old).given reader.old []
         → OnStream target.now name.now (now (D.history disk.old)) (now (D.history disk.new)) (D.faults disk.old) (D.faults disk.new)
         (OnWire (W.faults wire.new) (now (D.history disk.old)) name.now (stream_of (W.told wire.new))) (stream_of (W.told wire.new)) result }
-    ensures partial { D.tells → W.tells → HasRead (W.told wire.old).given reader.old [] → NeverStands target.now (now (D.history disk.old))
+    ensures partial { D.tells → W.tells → HasRead asks.Whole (W.told wire.old).given reader.old [] → NeverStands target.now (now (D.history disk.old))
         → Throughout (D.history disk.old) (D.history disk.new) (NeverPartial target.now (stream_of (W.told wire.new))) }
     ensures others { D.tells → LeavesOthers part.now target.now (now (D.history disk.old)) (now (D.history disk.new)) }
     ensures sent { W.tells → (W.told wire.new).sent ≡ (W.told wire.old).sent }

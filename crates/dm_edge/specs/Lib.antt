@@ -4,7 +4,9 @@ pub mod Fair
 pub mod Faults
 pub mod Fields
 pub mod Head
+pub mod Metadata
 pub mod Origin
+pub mod Part
 pub mod Reply
 pub mod Script
 pub mod Sink

@@ -13,6 +13,7 @@ mod origin;
 mod script;
 mod sink;
 mod sink_mem;
+mod wanted;
 mod wire;
 mod wire_mem;
 
@@ -27,6 +28,7 @@ pub use origin::{EveryByte, Generated, Origin};
 pub use script::{Exchange, NetFails, WireFails, WireScript, WireScripts};
 pub use sink::Sink;
 pub use sink_mem::SinkMem;
+pub use wanted::Wanted;
 pub use wire::Wire;
 pub use wire_mem::WireMem;
 

@@ -10,6 +10,7 @@ use Rattle.httparse.specs.Spans.{header_bytes, span_bytes}
 use Rattle.dm_tag.specs.Length.{IsLength}
 use Rattle.dm_tag.proofs.OneLemmas.{length_one}
 use Rattle.dm_edge.specs.Fields.{NameAndValue, has_name, values_of, is_plain}
+use Rattle.dm_edge.specs.Metadata.{NamesRanges, TakesRanges}
 use Rattle.dm_head.specs.declared.lengths.ToldLength.{ToldLength}
 use Rattle.dm_head.specs.declared.lengths.ToldLength.TheVariants as told
 use Rattle.dm_head.specs.Values.{is_coded, Tells, joined}
@@ -47,6 +48,31 @@ coded_at head spans i d within is =
     let e = get_or-map (header_bytes head) spans i d (header_bytes head d) within in
     coded_not_plain (map (header_bytes head) spans) i (header_bytes head d) (omega (arith, length-map spans (header_bytes head)))
     (ap is_coded e ∙ is)
+
+-- ---- a field that names ranges
+
+pub none_names_more : (head : List ℕ) (spans : List HeaderSpan) (i : ℕ) (d : HeaderSpan) → i < length spans
+    → All (λ (field : NameAndValue). NamesRanges field → ⊥) (map (header_bytes head) (take i spans))
+    → (NamesRanges (header_bytes head (get_or spans i d)) → ⊥)
+    → All (λ (field : NameAndValue). NamesRanges field → ⊥) (map (header_bytes head) (take (i + 1) spans))
+none_names_more head spans i d within before here =
+    let P : NameAndValue → Type 0 = λ field. NamesRanges field → ⊥ in
+    subst (λ (fields : List NameAndValue). All P fields) (sym (map_more (header_bytes head) spans i d within))
+    (All-append P (map (header_bytes head) (take i spans)) (header_bytes head (get_or spans i d) ∷ []) before
+    (All-cons P (header_bytes head (get_or spans i d)) [] here (All-nil P)))
+
+pub names_at : (head : List ℕ) (spans : List HeaderSpan) (i : ℕ) (d : HeaderSpan) → i < length spans
+    → NamesRanges (header_bytes head (get_or spans i d)) → TakesRanges (map (header_bytes head) spans)
+names_at head spans i d within named = (
+  i,
+  header_bytes head (get_or spans i d),
+  omega (arith, length-map spans (header_bytes head)),
+  get_or-map (header_bytes head) spans i d (header_bytes head (get_or spans i d)) within,
+  named,
+)
+
+pub none_names : (fields : List NameAndValue) → All (λ (field : NameAndValue). NamesRanges field → ⊥) fields → TakesRanges fields → ⊥
+none_names fields none any = none any.0 any.1 any.2 (subst NamesRanges (sym any.3) any.4)
 
 -- ---- lengths
 

@@ -9,16 +9,27 @@ use Rattle.httparse.specs.declared.Error.TheVariants as error
 use Rattle.httparse.specs.declared.spans.Span.{Span}
 use Rattle.httparse.specs.declared.spans.HeaderSpan.{HeaderSpan}
 use Rattle.httparse.specs.declared.spans.ResponseSpans.{ResponseSpans}
-use Rattle.httparse.specs.Grammar.{ResponseHead, print_response, print_blank, print_version, print_reason, print_end, print_field, HasNoResponse, NeverHasResponse}
+use Rattle.httparse.specs.Grammar.{ResponseHead, print_response, print_blank, print_version, print_reason, print_end, print_field, HasNoResponse, NeverHasResponse, status_code}
 use Rattle.httparse.specs.Spans.{IsResponseAt, IsResponseWithin, ResponseExceeds, IsHeaderWithin, header_bytes, span_bytes, name_and_value}
 use Rattle.httparse.proofs.GrammarLemmas.{ReadsResponse-append}
-use Rattle.dm_edge.specs.Fields.{NameAndValue, values_of, fields_of, FramedBy, IsUnframeable}
-use Rattle.dm_edge.specs.Head.{most_head, most_fields, BeginsWith, BeginsFinal, HasManyLines, IsBadHead, never, many, is_interim, is_redirect}
-use Rattle.dm_edge.specs.Reply.{LeadsTo, HasLostRedirect}
+use Rattle.dm_edge.specs.Fields.{NameAndValue, values_of, fields_of, FramedBy, IsUnframeable, is_plain}
+use Rattle.dm_edge.specs.Head.{most_head, most_fields, BeginsWith, BeginsFinal, HasManyLines, IsBadHead, never, many, is_interim}
+use Rattle.dm_edge.specs.declared.wanted.Wanted.{Wanted}
+use Rattle.dm_edge.specs.declared.framing.Framing.{Framing}
+use Rattle.dm_edge.specs.declared.framing.Framing.TheVariants.{Counted}
+use Rattle.dm_edge.specs.Reply.{content_status, leads_on, refuses_range, most_content, LeadsTo, GoesOn, IsGoodHead, Fits, IsOtherPart, MissesSize, TellsWhole, HasLostRedirect, HasEncoded, HasBadFraming, HasOtherStatus, HasRefusal, HasOtherPart, HasOtherSize, HasTooLarge}
+use Rattle.dm_head.specs.declared.framing.Framed.TheVariants as framed
+use Rattle.dm_head.specs.declared.whole.Kind.TheVariants as kind
 use Rattle.dm_head.specs.declared.fields.Values.{Values}
 use Rattle.dm_head.specs.declared.fields.Values.TheVariants as found
 use Rattle.dm_head.specs.Values.{AreValues}
-use Rattle.dm_head.specs.Whole.{HasWhole}
+use Rattle.dm_head.specs.Whole.{HasWhole, IsFramed, IsKind}
+use Rattle.dm_head.specs.declared.metadata.Metadata.{Metadata}
+use Rattle.dm_head.specs.declared.part.Extent.{Extent}
+use Rattle.dm_head.specs.Metadata.{IsMetadata}
+use Rattle.dm_head.specs.Fit.{IsExtent}
+use Rattle.dm_head.specs.Look.{FindsContent}
+use Rattle.dm_head.proofs.PartLemmas.{keeps_limit, in_limit}
 use Rattle.dm_head.proofs.ManyLines.{exceeds_many, printed, start_of}
 
 -- what begins with a head does so whatever follows
@@ -89,11 +100,11 @@ pub final_more : {front : List ℕ} {spans : ResponseSpans} {fields : List Heade
     → is_interim spans.code ≡ false → (more : List ℕ) → BeginsFinal (front ++ more) w.head (drop spans.len front ++ more)
 final_more w is more = record { begins = begins_more w.begins more; final = ap is_interim (sym w.code_is) ∙ is }
 
-pub leads_at : {front : List ℕ} {spans : ResponseSpans} {fields : List HeaderSpan} → (w : HasWhole front spans fields) (location : Span)
-    → is_redirect spans.code ≡ true → AreValues front (found.One location) (values_of (codes "location") (map (header_bytes front) fields))
-    → LeadsTo w.head (span_bytes front location)
-leads_at w location is only = record {
-  redirects = ap is_redirect (sym w.code_is) ∙ is;
+pub leads_at : {front : List ℕ} {spans : ResponseSpans} {fields : List HeaderSpan} → (wanted : Wanted) (w : HasWhole front spans fields) (location : Span)
+    → leads_on wanted spans.code ≡ true → AreValues front (found.One location) (values_of (codes "location") (map (header_bytes front) fields))
+    → LeadsTo wanted w.head (span_bytes front location)
+leads_at wanted w location is only = record {
+  redirects = ap (leads_on wanted) (sym w.code_is) ∙ is;
   only = ap (values_of (codes "location")) (sym w.fields_are) ∙ only.0;
 }
 
@@ -109,19 +120,139 @@ not_one head found.Absent texts location other are e = absurd (omega (arith, ap 
 not_one head (found.One span) texts location other are e = other span refl
 not_one head found.Several texts location other are e = absurd (omega (arith, ap length e, are))
 
-pub lost_more : {front : List ℕ} {spans : ResponseSpans} {fields : List HeaderSpan} → (w : HasWhole front spans fields) (values : Values)
-    → is_interim spans.code ≡ false → is_redirect spans.code ≡ true → ((span : Span) → values ≢ found.One span)
+pub lost_more : {front : List ℕ} {spans : ResponseSpans} {fields : List HeaderSpan} → (wanted : Wanted) (w : HasWhole front spans fields) (values : Values)
+    → is_interim spans.code ≡ false → leads_on wanted spans.code ≡ true → ((span : Span) → values ≢ found.One span)
     → AreValues front values (values_of (codes "location") (map (header_bytes front) fields))
-    → (more : List ℕ) → IsBadHead (front ++ more) ⊎ HasLostRedirect (front ++ more)
-lost_more {front} {spans} w values final is other are more = inr (record {
+    → (more : List ℕ) → IsBadHead (front ++ more) ⊎ HasLostRedirect wanted (front ++ more)
+lost_more {front} {spans} wanted w values final is other are more = inr (record {
   head = w.head;
   rest = drop spans.len front ++ more;
   begins = final_more w final more;
   leads = record {
-    redirects = ap is_redirect (sym w.code_is) ∙ is;
+    redirects = ap (leads_on wanted) (sym w.code_is) ∙ is;
     none = λ location e. not_one front values _ location other are (ap (values_of (codes "location")) w.fields_are ∙ e);
   };
 })
+
+-- ---- a whole head that is refused, whatever follows
+
+module _ (wanted : Wanted) {front : List ℕ} {spans : ResponseSpans} {fields : List HeaderSpan} (w : HasWhole front spans fields) where
+  abbrev NamesAndValues : List NameAndValue
+  NamesAndValues = map (header_bytes front) fields
+
+  -- the fields as the head has them
+  of_head : (P : List NameAndValue → Type 0) → P NamesAndValues → P (fields_of w.head)
+  of_head P is = subst P w.fields_are is
+
+  wanted_status : spans.code ≡ content_status wanted → status_code w.head ≡ content_status wanted
+  wanted_status is = sym w.code_is ∙ is
+
+  pub good_at : (framing : Framing) → IsFramed spans.version NamesAndValues (framed.Good framing) → IsGoodHead w.head framing
+  good_at framing is = record {
+    plain = of_head (λ fs. is_plain fs ≡ true) is.0;
+    framed = subst (λ (n : ℕ). FramedBy n (fields_of w.head) framing) w.minor_is (of_head (λ fs. FramedBy spans.version fs framing) is.1);
+  }
+
+  pub encoded_more : is_interim spans.code ≡ false → GoesOn wanted w.head → is_plain NamesAndValues ≡ false → (more : List ℕ)
+      → HasEncoded wanted (front ++ more)
+  encoded_more final goes_on is more = record {
+    head = w.head;
+    rest = drop spans.len front ++ more;
+    begins = final_more w final more;
+    goes_on = goes_on;
+    encoded = of_head (λ fs. is_plain fs ≡ false) is;
+  }
+
+  pub unframed_more : is_interim spans.code ≡ false → GoesOn wanted w.head → is_plain NamesAndValues ≡ true
+      → IsUnframeable spans.version NamesAndValues → (more : List ℕ) → HasBadFraming wanted (front ++ more) ⊎ HasOtherSize wanted (front ++ more)
+  unframed_more final goes_on plain none more = inl (record {
+    head = w.head;
+    rest = drop spans.len front ++ more;
+    begins = final_more w final more;
+    goes_on = goes_on;
+    plain = of_head (λ fs. is_plain fs ≡ true) plain;
+    unframeable = unframeable_at w none;
+  })
+
+  pub goes_on_at : IsKind wanted spans.code kind.Content → GoesOn wanted w.head
+  goes_on_at is = inl (wanted_status is.1)
+
+  pub leads_on_at : (location : Span) → IsKind wanted spans.code kind.Redirect
+      → AreValues front (found.One location) (values_of (codes "location") NamesAndValues) → GoesOn wanted w.head
+  leads_on_at location is only = inr (span_bytes front location, leads_at wanted w location is.1 only)
+
+  pub refusal_more : IsKind wanted spans.code kind.Refusal → (more : List ℕ)
+      → HasRefusal wanted (front ++ more) spans.code ⊎ HasOtherPart wanted (front ++ more) spans.code
+  refusal_more is more = inl (record {
+    head = w.head;
+    rest = drop spans.len front ++ more;
+    begins = final_more w is.0 more;
+    status_is = sym w.code_is;
+    refuses = is.1;
+  })
+
+  pub other_more : IsKind wanted spans.code kind.Other → (more : List ℕ) → HasOtherStatus wanted (front ++ more) spans.code
+  other_more is more = record {
+    head = w.head;
+    rest = drop spans.len front ++ more;
+    begins = final_more w is.0 more;
+    status_is = sym w.code_is;
+    other = record { not_ok = is.1; no_redirect = is.2; no_refusal = is.3 };
+  }
+
+  module _ (framing : Framing) (is : IsKind wanted spans.code kind.Content) (good : IsFramed spans.version NamesAndValues (framed.Good framing)) where
+    pub other_part_more : IsOtherPart wanted NamesAndValues → (more : List ℕ)
+        → HasRefusal wanted (front ++ more) spans.code ⊎ HasOtherPart wanted (front ++ more) spans.code
+    other_part_more other more = inr (record {
+      head = w.head;
+      rest = drop spans.len front ++ more;
+      begins = final_more w is.0 more;
+      ok = wanted_status is.1;
+      status_is = is.1;
+      framing = framing;
+      good = good_at framing good;
+      other = of_head (IsOtherPart wanted) other;
+    })
+
+    pub other_size_more : MissesSize wanted NamesAndValues framing → (more : List ℕ)
+        → HasBadFraming wanted (front ++ more) ⊎ HasOtherSize wanted (front ++ more)
+    other_size_more misses more = inr (record {
+      head = w.head;
+      rest = drop spans.len front ++ more;
+      begins = final_more w is.0 more;
+      ok = wanted_status is.1;
+      framing = framing;
+      good = good_at framing good;
+      misses = of_head (λ fs. MissesSize wanted fs framing) misses;
+    })
+
+    pub large_more : (total : ℕ) → TellsWhole wanted NamesAndValues framing total → most_content < total → (more : List ℕ)
+        → HasTooLarge wanted (front ++ more) total
+    large_more total tells above more = record {
+      head = w.head;
+      rest = drop spans.len front ++ more;
+      begins = final_more w is.0 more;
+      ok = wanted_status is.1;
+      framing = framing;
+      good = good_at framing good;
+      tells = of_head (λ fs. TellsWhole wanted fs framing total) tells;
+      above = above;
+    }
+
+    pub found_content : (extent : Extent) (metadata : Metadata) → Fits wanted NamesAndValues framing → IsExtent wanted NamesAndValues framing extent
+        → IsMetadata front NamesAndValues metadata → FindsContent wanted front spans.len framing extent metadata
+    found_content extent metadata fits extent_is metadata_is = record {
+      head = w.head;
+      begins = record { begins = w.begins; final = ap is_interim (sym w.code_is) ∙ is.0 };
+      ok = wanted_status is.1;
+      good = good_at framing good;
+      fits = of_head (λ fs. Fits wanted fs framing) fits;
+      limit = keeps_limit wanted NamesAndValues framing fits;
+      extent_is = of_head (λ fs. IsExtent wanted fs framing extent) extent_is;
+      in_limit = in_limit wanted NamesAndValues framing extent fits extent_is;
+      within = w.len_fits;
+      metadata_is = of_head (λ fs. IsMetadata front fs metadata) metadata_is;
+    }
 
 -- ---- no head
 
@@ -164,11 +295,11 @@ too_many_or_not error.TooManyHeaders = inl refl
 too_many_or_not error.Version = inr (λ e. cc)
 
 -- what an error of the parser says
-pub refused_bad : (front : List ℕ) → length front ≤ most_head → (e : Error)
+pub refused_bad : (wanted : Wanted) (front : List ℕ) → length front ≤ most_head → (e : Error)
     → (e ≢ error.TooManyHeaders → NeverHasResponse front)
     → (e ≡ error.TooManyHeaders → ResponseExceeds most_fields front)
-    → (more : List ℕ) → IsBadHead (front ++ more) ⊎ HasLostRedirect (front ++ more)
-refused_bad front small e none exceeds more = elim (too_many_or_not e) [
+    → (more : List ℕ) → IsBadHead (front ++ more) ⊎ HasLostRedirect wanted (front ++ more)
+refused_bad wanted front small e none exceeds more = elim (too_many_or_not e) [
   | inl is ↦ inl (many (many_in_limit front small (exceeds_many (exceeds is)) more))
   | inr other ↦ inl (never (never_more front small (none other) more))
 ]

@@ -5,4 +5,5 @@ pub mod HeadLemmas
 pub mod LineLemmas
 pub mod ManyLines
 pub mod Outcomes
+pub mod PartLemmas
 pub mod PassLemmas

@@ -1,6 +1,8 @@
+pub mod Fit
 pub mod Laws
 pub mod Lines
 pub mod Look
+pub mod Metadata
 pub mod Modified
 pub mod Values
 pub mod Whole

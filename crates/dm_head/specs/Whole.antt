@@ -7,8 +7,9 @@ use Rattle.httparse.specs.Spans.{IsHeaderWithin, header_bytes}
 use Rattle.dm_edge.specs.declared.framing.Framing.{Framing}
 use Rattle.dm_edge.specs.declared.framing.Framing.TheVariants as frame
 use Rattle.dm_edge.specs.Fields.{NameAndValue, fields_of, is_plain, FramedBy, IsUnframeable}
-use Rattle.dm_edge.specs.Head.{BeginsWith, is_interim, is_redirect}
-use Rattle.dm_edge.specs.Reply.{ok_status}
+use Rattle.dm_edge.specs.Head.{BeginsWith, is_interim}
+use Rattle.dm_edge.specs.Reply.{content_status, leads_on, refuses_range}
+use Rattle.dm_edge.specs.declared.wanted.Wanted.{Wanted}
 use Rattle.dm_head.specs.declared.framing.Framed.{Framed}
 use Rattle.dm_head.specs.declared.framing.Framed.TheVariants as framed
 use Rattle.dm_head.specs.declared.lengths.ToldLength.{ToldLength}
@@ -39,8 +40,10 @@ framing_by (told.Count count) = Some (frame.Counted count)
 framing_by told.Unreadable = None
 
 -- what a status leads to
-abbrev pub IsKind : ℕ → Kind → Type 0
-IsKind status kind.Interim = is_interim status ≡ true
-IsKind status kind.Content = (is_interim status ≡ false) × (status ≡ ok_status)
-IsKind status kind.Redirect = (is_interim status ≡ false) × (is_redirect status ≡ true)
-IsKind status kind.Other = (is_interim status ≡ false) × (status ≢ ok_status) × (is_redirect status ≡ false)
+abbrev pub IsKind : Wanted → ℕ → Kind → Type 0
+IsKind wanted status kind.Interim = is_interim status ≡ true
+IsKind wanted status kind.Content = (is_interim status ≡ false) × (status ≡ content_status wanted)
+IsKind wanted status kind.Redirect = (is_interim status ≡ false) × (leads_on wanted status ≡ true)
+IsKind wanted status kind.Refusal = (is_interim status ≡ false) × (refuses_range wanted status ≡ true)
+IsKind wanted status kind.Other =
+    (is_interim status ≡ false) × (status ≢ content_status wanted) × (leads_on wanted status ≡ false) × (refuses_range wanted status ≡ false)

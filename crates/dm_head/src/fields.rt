@@ -1,18 +1,11 @@
 //! The fields of a head by their names.
-ghost use Rattle.std.specs.Prelude.{◌≡◌, ◌≤◌, All, codes, length, map};
+ghost use Rattle.std.specs.Prelude.{◌≡◌, All, codes, length, map};
 ghost use Rattle.std.specs.Str.{str_eq_ignore_ascii_case};
-ghost use Rattle.httparse.specs.Spans.{IsHeaderWithin, IsWithin, header_bytes, span_bytes};
-ghost use Rattle.dm_edge.specs.Fields.{has_name, is_plain as all_plain, only_within, values_of as all_values};
-ghost use Rattle.dm_head.specs.Modified.{most_modified};
-ghost use Rattle.dm_head.specs.Values.{AreValues, one_more, is_coded as is_coded_field, kept};
+ghost use Rattle.httparse.specs.Spans.{IsHeaderWithin, header_bytes};
+ghost use Rattle.dm_edge.specs.Fields.{has_name, is_plain as all_plain, values_of as all_values};
+ghost use Rattle.dm_head.specs.Values.{AreValues, one_more, is_coded as is_coded_field};
 
 use httparse::spans::{HeaderSpan, Span};
-
-/// The most bytes of a Last-Modified that is kept.
-const MOST_MODIFIED: usize = 128;
-
-/// Covers no byte.
-const NOTHING: Span = Span { start: 0, end: 0 };
 
 /// The values of the fields of one name.
 #[derive(Clone, Copy)]
@@ -79,30 +72,4 @@ fn is_identity(value: &[u8]) -> bool
     ensures { result ≡ str_eq_ignore_ascii_case value.now (codes "identity") }
 {
     value.eq_ignore_ascii_case(b"identity")
-}
-
-/// Covers the value of Last-Modified where exactly one such field stands with at most 128 bytes, and
-/// else nothing (RFC 9110, section 8.8.2).
-pub fn modified_of(head: &[u8], fields: &[HeaderSpan]) -> Span
-    requires { All (IsHeaderWithin (length head.now)) fields.now }
-    ensures within { IsWithin (length head.now) result }
-    ensures is { span_bytes head.now result ≡ only_within most_modified (all_values (codes "last-modified") (map (header_bytes head.now) fields.now)) }
-{
-    match values_of(head, fields, b"last-modified") {
-        Values::One(value) => short(value),
-        Values::Absent => NOTHING,
-        Values::Several => NOTHING,
-    }
-}
-
-/// The span, where it keeps the limit, and else nothing.
-fn short(value: Span) -> Span
-    requires { value.start ≤ value.end }
-    ensures { result ≡ kept value }
-{
-    if value.end - value.start <= MOST_MODIFIED {
-        value
-    } else {
-        NOTHING
-    }
 }

@@ -13,7 +13,7 @@ use dm_edge::Framing;
 use httparse::spans::HeaderSpan;
 
 /// The most bytes that a content may have.
-const MOST_CONTENT: u64 = 1 << 40;
+pub const MOST_CONTENT: u64 = 1 << 40;
 
 /// Whether and how the content can be read.
 #[derive(Clone, Copy)]

@@ -6,10 +6,14 @@ mod framing;
 mod laws;
 mod lengths;
 mod look;
+mod metadata;
+mod part;
 mod whole;
 
 pub use laws::{more_bytes, one_outcome};
 pub use look::{Look, look_at};
+pub use metadata::Metadata;
+pub use part::Extent;
 
 #[cfg(test)]
 mod tests;

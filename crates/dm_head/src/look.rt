@@ -4,8 +4,10 @@ ghost use Rattle.dm_edge.specs.Head.{most_fields, most_head};
 ghost use Rattle.dm_head.specs.Lines.{lines_begun};
 ghost use Rattle.dm_head.specs.Look.{Finds};
 
+use crate::metadata::Metadata;
+use crate::part::Extent;
 use crate::whole::look_at_whole;
-use dm_edge::Framing;
+use dm_edge::{Framing, Wanted};
 use dm_policy::Cause;
 use httparse::Status;
 use httparse::spans::{EMPTY_HEADER_SPAN, Span, parse_response};
@@ -21,18 +23,18 @@ pub enum Look {
         size: usize,
         status: u16,
     },
-    /// A whole head of status 200, before the content's first byte at `start`. `modified` covers its
-    /// Last-Modified, or nothing.
+    /// A whole head with the wanted content, before the content's first byte at `start`.
     Content {
         start: usize,
         framing: Framing,
-        modified: Span,
+        extent: Extent,
+        metadata: Metadata,
     },
     /// A whole head that leads to another address, whose Location `location` covers.
     Redirect {
         status: u16,
         location: Span,
-        modified: Span,
+        metadata: Metadata,
     },
     /// What ends the reply, whatever follows.
     Refused(Cause),
@@ -40,14 +42,14 @@ pub enum Look {
     Open,
 }
 
-/// Looks at the first bytes of a stream, at most 65,536.
-pub fn look_at(front: &[u8]) -> Look
+/// Looks at the first bytes of a stream, at most 65,536, where this is wanted.
+pub fn look_at(front: &[u8], wanted: &Wanted) -> Look
     requires { length front.now ≤ most_head }
-    ensures { Finds front.now result }
+    ensures { Finds wanted.now front.now result }
 {
     let mut fields = [EMPTY_HEADER_SPAN; MOST_FIELDS];
     match parse_response(front, &mut fields) {
-        Ok(Status::Complete(head)) => look_at_whole(front, &head, &fields[..head.headers]),
+        Ok(Status::Complete(head)) => look_at_whole(front, &head, &fields[..head.headers], wanted),
         Ok(Status::Partial) if begins_too_many(front) => Look::Refused(Cause::BadHead),
         Ok(Status::Partial) => Look::Open,
         Err(_) => Look::Refused(Cause::BadHead),

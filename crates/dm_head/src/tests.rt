@@ -1,11 +1,30 @@
 use crate::*;
-use dm_edge::Framing;
+use dm_edge::{Framing, Wanted};
 use dm_policy::Cause;
 use httparse::spans::Span;
 use std::alloc::Global;
 use std::test::Fail;
 
-const NOTHING: Span = Span { start: 0, end: 0 };
+const NO_METADATA: Metadata = Metadata {
+    strong: None,
+    ranges: false,
+    disposition: None,
+    modified: Span { start: 0, end: 0 },
+};
+
+/// The bytes of a whole content.
+fn whole_of(framing: Framing) -> Extent {
+    let total = match framing {
+        Framing::Counted(count) => Some(count),
+        Framing::Chunked => None,
+        Framing::ToEnd => None,
+    };
+    Extent {
+        first: 0,
+        last: None,
+        total,
+    }
+}
 
 /// Whether each cut of the bytes is the front of a head, and all of them are this.
 fn is_found(head: &[u8], look: Look) -> bool {
@@ -13,11 +32,11 @@ fn is_found(head: &[u8], look: Look) -> bool {
         return false;
     }
     for length in 0..head.len() {
-        if look_at(&head[..length]) != Look::Open {
+        if look_at(&head[..length], &Wanted::Whole) != Look::Open {
             return false;
         }
     }
-    look_at(head) == look
+    look_at(head, &Wanted::Whole) == look
 }
 
 fn is_refused(head: &[u8], cause: Cause) -> bool {
@@ -30,7 +49,8 @@ fn is_content(head: &[u8], framing: Framing) -> bool {
         Look::Content {
             start: head.len(),
             framing,
-            modified: NOTHING,
+            extent: whole_of(framing),
+            metadata: NO_METADATA,
         },
     )
 }
@@ -39,7 +59,7 @@ fn is_redirect(head: &[u8], location: &[u8]) -> bool {
     if head.len() > 65_536 {
         return false;
     }
-    match look_at(head) {
+    match look_at(head, &Wanted::Whole) {
         Look::Redirect {
             location: found,
             ..
@@ -57,7 +77,7 @@ fn of_status(status: &[u8; 3]) -> Look {
     for k in 0..3 {
         head[9 + k] = status[k];
     }
-    look_at(&head)
+    look_at(&head, &Wanted::Whole)
 }
 
 #[test]
@@ -105,7 +125,7 @@ fn statuses_of_redirects(rt: HostRuntime) {
         let redirect = Look::Redirect {
             status,
             location: Span { start: 25, end: 27 },
-            modified: NOTHING,
+            metadata: NO_METADATA,
         };
         assert_eq!(rt; of_status(digits), redirect);
     }
@@ -177,7 +197,7 @@ fn content_is_framed(rt: HostRuntime) {
 fn content_goes_on_to_the_end(rt: HostRuntime) {
     for (head, framing) in FRAMED {
         if framing == Framing::ToEnd {
-            match look_at(head) {
+            match look_at(head, &Wanted::Whole) {
                 Look::Content { start, framing, .. } => {
                     assert_eq!(rt; (start, framing), (head.len(), Framing::ToEnd))
                 }
@@ -303,7 +323,7 @@ fn is_bad_from(bytes: &[u8], first: usize) -> bool {
         } else {
             Look::Refused(Cause::BadHead)
         };
-        if look_at(&bytes[..length]) != look {
+        if look_at(&bytes[..length], &Wanted::Whole) != look {
             return false;
         }
     }
@@ -329,7 +349,7 @@ fn with_fields(alloc: Global, count: usize, end: &[u8]) -> Result<Look, Fail> {
     if head.len() > 65_536 {
         return Ok(Look::Open);
     }
-    Ok(look_at(head.as_slice()))
+    Ok(look_at(head.as_slice(), &Wanted::Whole))
 }
 
 #[test]
@@ -337,7 +357,8 @@ fn a_hundred_fields_are_taken(rt: HostRuntime) -> Result<(), Fail> {
     let whole = Look::Content {
         start: 619,
         framing: Framing::ToEnd,
-        modified: NOTHING,
+        extent: whole_of(Framing::ToEnd),
+        metadata: NO_METADATA,
     };
     assert_eq!(rt; with_fields(rt.alloc(), 100, b"")?, Look::Open);
     assert_eq!(rt; with_fields(rt.alloc(), 100, b"\r\n")?, whole);
@@ -363,8 +384,13 @@ fn kept(alloc: Global, length: usize) -> Result<usize, Fail> {
     if head.len() > 65_536 {
         return Ok(0);
     }
-    match look_at(head.as_slice()) {
-        Look::Content { modified, .. } => Ok(modified.end.saturating_sub(modified.start)),
+    match look_at(head.as_slice(), &Wanted::Whole) {
+        Look::Content { metadata, .. } => Ok(
+            metadata
+                .modified
+                .end
+                .saturating_sub(metadata.modified.start),
+        ),
         _ => Ok(0),
     }
 }

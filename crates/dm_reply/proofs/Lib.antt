@@ -4,3 +4,5 @@ pub mod PlainLemmas
 pub mod ChunkLemmas
 pub mod HeadLemmas
 pub mod Outcomes
+pub mod PartLemmas
+pub mod Said

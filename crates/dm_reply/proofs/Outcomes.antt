@@ -1,5 +1,5 @@
 -- A content ends in at most one way.
-use Rattle.std.proofs.Common.{◌≡◌, ℕ, ◌≤◌, ◌⊎◌, inl, inr, List, [], ◌∷◌, ◌++◌, length, take, refl, sym, ap, ◌∙◌, subst, arith, append_assoc, length-append}
+use Rattle.std.proofs.Common.{◌≡◌, ℕ, ◌≤◌, ◌⊎◌, inl, inr, List, [], ◌∷◌, ◌++◌, length, take, refl, sym, ap, ◌∙◌, subst, arith, append_assoc, length-append, Option, Some}
 use Rattle.std.proofs.lemmas.List.{append-nil, take_at, append_cancel_left}
 use Rattle.httparse.specs.Grammar.{ResponseHead}
 use Rattle.dm_policy.specs.declared.cause.Cause.{Cause}
@@ -10,10 +10,15 @@ use Rattle.dm_chunk.proofs.ListLemmas.{fronts, head_is}
 use Rattle.dm_chunk.proofs.LawLemmas.{one_chunked, one_front, one_bad, chunked_no_front, chunked_not_bad, front_not_bad}
 use Rattle.dm_edge.specs.declared.framing.Framing.{Framing}
 use Rattle.dm_edge.specs.declared.framing.Framing.TheVariants as framing
-use Rattle.dm_edge.specs.Reply.{BeginsContent, BeginsRedirect, IsWhole, EndsWhole, EndsShort, KeepsLimit, most_content, HeadBroke, ContentBroke, IsOfWire}
+use Rattle.dm_edge.specs.declared.wanted.Wanted.{Wanted}
+use Rattle.dm_edge.specs.declared.wanted.Wanted.TheVariants as asks
+use Rattle.dm_edge.specs.Fields.{fields_of}
+use Rattle.dm_edge.specs.Part.{part_size}
+use Rattle.dm_edge.specs.Reply.{BeginsContent, BeginsRedirect, IsFramedWhole, IsFramedFront, IsFramedShort, IsFramedBadly, IsFramedOver, HasPartSize, HasFramedEnd, IsAllOf, IsShortOf, IsBadOf, IsOverOf, IsWhole, EndsWhole, EndsShort, KeepsLimit, most_content, HeadBroke, ContentBroke, IsOfWire}
 use Rattle.dm_edge.specs.Reply.{Brings as BringsFramed}
 use Rattle.dm_head.specs.Laws.{Content, Redirect, Broke, Ninth}
 use Rattle.dm_head.proofs.Outcomes.{one_outcome}
+use Rattle.dm_head.proofs.PartLemmas.{one_part, keeps_limit}
 use Rattle.dm_reply.specs.Laws.{Ending, Whole, Short, BadlyChunked, Overfull, IsEnding, OneEnding, WholeAlone}
 
 -- ---- by the framing, and the bytes behind the head
@@ -32,24 +37,39 @@ Ends told rest (Short content wanted) = EndsShort told rest content wanted × (l
 Ends told rest (BadlyChunked content) = (told ≡ framing.Chunked) × IsBadChunked rest content × (length content ≤ most_content)
 Ends told rest (Overfull content) = Over told rest content
 
-record Ended (stream : List ℕ) (ending : Ending) : Type 0 where
-  head : ResponseHead
+record Ended (wanted : Wanted) (head : ResponseHead) (stream : List ℕ) (ending : Ending) : Type 0 where
   told : Framing
   rest : List ℕ
-  begins : BeginsContent stream head told rest
+  begins : BeginsContent wanted stream head told rest
   ends : Ends told rest ending
 
-ended : (stream : List ℕ) (ending : Ending) → IsEnding stream ending → Ended stream ending
-ended stream (Whole content) e = record { head = e.head; told = e.framing; rest = e.rest; begins = e.begins; ends = (e.whole, e.limit) }
-ended stream (Short content wanted) e = record { head = e.head; told = e.framing; rest = e.rest; begins = e.begins; ends = (e.short, e.limit) }
-ended stream (BadlyChunked content) e = record { head = e.head; told = framing.Chunked; rest = e.rest; begins = e.begins; ends = (refl, e.bad, e.limit) }
-ended stream (Overfull content) e = record {
-  head = e.head;
+-- the ending of what a head frames
+abbrev IsFramedEnding : Wanted → ResponseHead → List ℕ → Ending → Type 0
+IsFramedEnding wanted head stream (Whole content) = IsFramedWhole wanted head stream content
+IsFramedEnding wanted head stream (Short content told) = IsFramedShort wanted head stream content told
+IsFramedEnding wanted head stream (BadlyChunked content) = IsFramedBadly wanted head stream content
+IsFramedEnding wanted head stream (Overfull content) = IsFramedOver wanted head stream content
+
+ended : (wanted : Wanted) (head : ResponseHead) (stream : List ℕ) (ending : Ending) → IsFramedEnding wanted head stream ending
+    → Ended wanted head stream ending
+ended wanted head stream (Whole content) e = record { told = e.framing; rest = e.rest; begins = e.begins; ends = (e.whole, e.limit) }
+ended wanted head stream (Short content told) e = record { told = e.framing; rest = e.rest; begins = e.begins; ends = (e.short, e.limit) }
+ended wanted head stream (BadlyChunked content) e = record { told = framing.Chunked; rest = e.rest; begins = e.begins; ends = (refl, e.bad, e.limit) }
+ended wanted head stream (Overfull content) e = record {
   told = e.framing;
   rest = e.bytes ++ e.after;
   begins = e.begins;
   ends = record { bytes = e.bytes; after = e.after; more = e.more; parts = refl; brings = e.brings; full = e.full };
 }
+
+-- a head that can be read, and the framing and what is behind it
+record HasFramedHead (wanted : Wanted) (head : ResponseHead) (stream : List ℕ) : Type 0 where
+  framing : Framing
+  rest : List ℕ
+  begins : BeginsContent wanted stream head framing rest
+
+begins_limit : {wanted : Wanted} {head : ResponseHead} {stream rest : List ℕ} {told : Framing} → BeginsContent wanted stream head told rest → KeepsLimit told
+begins_limit {wanted} {head} {stream} {rest} {told} b = keeps_limit wanted (fields_of head) told b.fits
 
 -- ---- lists
 
@@ -58,6 +78,10 @@ same_front a x b y e size = sym (take_at a x (length b) size) ∙ ap (take (leng
 
 longer : (whole front : List ℕ) → Begins whole front → length front ≤ length whole
 longer whole front b = let e = ap length b.parts in omega (arith, e, length-append front b.rest)
+
+-- what begins with as many bytes is the same
+same_begun : (a b : List ℕ) → length a ≡ length b → Begins a b → a ≡ b
+same_begun a b size h = sym (same_front b h.rest a [] (sym h.parts ∙ sym (append-nil a)) (sym size))
 
 same_all : (a b : List ℕ) (x y : ℕ) → length a ≡ length b → Begins (a ++ x ∷ []) (b ++ y ∷ []) → a ≡ b
 same_all a b x y size h =
@@ -131,24 +155,23 @@ over_not_whole {rest} {content} {whole} {behind} o c limit =
 over_not_front : {rest content front : List ℕ} → Over framing.Chunked rest content → IsFrontOf rest front → length front ≤ most_content → ⊥
 over_not_front {rest} {content} {front} o f limit = too_long content front o.more o.full limit (f.all (content ++ o.more ∷ []) (over_brings o))
 
-over_not_bad : {rest content brought : List ℕ} → Over framing.Chunked rest content → IsBadChunked rest brought → length brought ≤ most_content → ⊥
-over_not_bad {rest} {content} {brought} o bad limit = of_case (fronts o.bytes o.after bad.front (bad.byte ∷ bad.rest) (sym o.parts ∙ bad.parts))
+-- what a front brings before a text goes wrong was brought before it does
+front_in_bad : {rest bytes front brought : List ℕ} (after : List ℕ) → rest ≡ bytes ++ after → IsFrontOf bytes front → IsBadChunked rest brought → Begins brought front
+front_in_bad {rest} {bytes} {front} {brought} after parts brings bad = of_case (fronts bytes after bad.front (bad.byte ∷ bad.rest) (sym parts ∙ bad.parts))
   where
-    from_bytes : (r : List ℕ) → bad.front ≡ o.bytes ++ r → ⊥
+    from_bytes : (r : List ℕ) → bad.front ≡ bytes ++ r → Begins brought front
     from_bytes r e =
-        too_long content brought o.more o.full limit
-        (bad.before.all (content ++ o.more ∷ [])
-        (subst (λ (t : List ℕ). Brings t (content ++ o.more ∷ [])) (sym e) (brings_more o.bytes r (content ++ o.more ∷ []) o.brings.brought)))
+        bad.before.all front (subst (λ (t : List ℕ). Brings t front) (sym e) (brings_more bytes r front brings.brought))
 
-    from_front : (r : List ℕ) → o.bytes ≡ bad.front ++ r → ⊥
-    from_front [] e = from_bytes [] (sym (e ∙ append-nil bad.front) ∙ sym (append-nil o.bytes))
+    from_front : (r : List ℕ) → bytes ≡ bad.front ++ r → Begins brought front
+    from_front [] e = from_bytes [] (sym (e ∙ append-nil bad.front) ∙ sym (append-nil bytes))
     from_front (x ∷ r) e =
-        let both : bad.front ++ x ∷ (r ++ o.after) ≡ bad.front ++ bad.byte ∷ bad.rest =
-        sym (ap (λ t. t ++ o.after) e ∙ append_assoc bad.front (x ∷ r) o.after) ∙ sym o.parts ∙ bad.parts
+        let both : bad.front ++ x ∷ (r ++ after) ≡ bad.front ++ bad.byte ∷ bad.rest =
+        sym (ap (λ t. t ++ after) e ∙ append_assoc bad.front (x ∷ r) after) ∙ sym parts ∙ bad.parts
         in
-        let byte = head_is x bad.byte (r ++ o.after) bad.rest (append_cancel_left bad.front (x ∷ (r ++ o.after)) (bad.byte ∷ bad.rest) both) in
-        let on = o.brings.goes_on in
-        bad.stops (record {
+        let byte = head_is x bad.byte (r ++ after) bad.rest (append_cancel_left bad.front (x ∷ (r ++ after)) (bad.byte ∷ bad.rest) both) in
+        let on = brings.goes_on in
+        absurd (bad.stops (record {
           more = r ++ on.more;
           content = on.content;
           after = on.after;
@@ -156,11 +179,14 @@ over_not_bad {rest} {content} {brought} o bad limit = of_case (fronts o.bytes o.
               (ap (λ t. t ++ on.more) (e ∙ ap (λ (b : ℕ). bad.front ++ b ∷ r) byte) ∙ append_assoc bad.front (bad.byte ∷ r) on.more
               ∙ sym (append_assoc bad.front (bad.byte ∷ []) (r ++ on.more)))
               on.chunked;
-        })
+        }))
 
-    of_case : Begins o.bytes bad.front ⊎ Begins bad.front o.bytes → ⊥
+    of_case : Begins bytes bad.front ⊎ Begins bad.front bytes → Begins brought front
     of_case (inl b) = from_front b.rest b.parts
     of_case (inr b) = from_bytes b.rest b.parts
+
+over_not_bad : {rest content brought : List ℕ} → Over framing.Chunked rest content → IsBadChunked rest brought → length brought ≤ most_content → ⊥
+over_not_bad {rest} {content} {brought} o bad limit = too_long content brought o.more o.full limit (front_in_bad o.after o.parts o.brings bad)
 
 over_one : {rest a b : List ℕ} → Over framing.Chunked rest a → Over framing.Chunked rest b → a ≡ b
 over_one {rest} {a} {b} x y = of_case (fronts x.bytes x.after y.bytes y.after (sym x.parts ∙ y.parts))
@@ -201,66 +227,261 @@ ends_one framing.Chunked rest a b limit x y = chunked_one rest a b x y
 ends_one (framing.Counted count) rest a b limit x y = counted_one count rest a b limit x y
 ends_one framing.ToEnd rest a b limit x y = to_end_one rest a b x y
 
-same_place : {stream : List ℕ} {a b : Ending} → (x : Ended stream a) → (y : Ended stream b) → (x.told ≡ y.told) × (x.rest ≡ y.rest)
-same_place {stream} x y =
-    let same = one_outcome stream (Content x.head x.told x.rest) (Content y.head y.told y.rest) x.begins y.begins in
+same_place : {wanted : Wanted} {head other : ResponseHead} {stream : List ℕ} {a b : Ending} → (x : Ended wanted head stream a)
+    → (y : Ended wanted other stream b) → (x.told ≡ y.told) × (x.rest ≡ y.rest)
+same_place {wanted} {head} {other} {stream} x y =
+    let same = one_outcome wanted stream (Content head x.told x.rest) (Content other y.told y.rest) x.begins y.begins in
     ((cc), (cc))
 
-pub one_ending : OneEnding
-one_ending stream a b is other =
-    let x = ended stream a is in
-    let y = ended stream b other in
+one_framed_ending : (wanted : Wanted) (head other : ResponseHead) (stream : List ℕ) (a b : Ending) → IsFramedEnding wanted head stream a
+    → IsFramedEnding wanted other stream b → a ≡ b
+one_framed_ending wanted head other stream a b is other_is =
+    let x = ended wanted head stream a is in
+    let y = ended wanted other stream b other_is in
     let same = same_place x y in
-    ends_one x.told x.rest a b x.begins.limit x.ends
+    ends_one x.told x.rest a b (begins_limit x.begins) x.ends
     (subst (λ (t : Framing). Ends t x.rest b) (sym same.0) (subst (λ (r : List ℕ). Ends y.told r b) (sym same.1) y.ends))
+
+-- ---- fronts of what a head frames
+
+-- first bytes, by the framing and what is behind the head
+record FrontAt (told : Framing) (rest front : List ℕ) : Type 0 where
+  bytes : List ℕ
+  after : List ℕ
+  parts : rest ≡ bytes ++ after
+  brings : BringsFramed told bytes front
+
+front_at : {wanted : Wanted} {head other : ResponseHead} {stream front rest : List ℕ} {told : Framing} → IsFramedFront wanted head stream front
+    → BeginsContent wanted stream other told rest → FrontAt told rest front
+front_at {wanted} {head} {other} {stream} {front} {rest} {told} f begins =
+    let same = one_outcome wanted stream (Content head f.framing (f.bytes ++ f.after)) (Content other told rest) f.begins begins in
+    let framing_is : f.framing ≡ told = cc in
+    let rest_is : f.bytes ++ f.after ≡ rest = cc in
+    record {
+      bytes = f.bytes;
+      after = f.after;
+      parts = sym rest_is;
+      brings = subst (λ (t : Framing). BringsFramed t f.bytes front) framing_is f.brings;
+    }
+
+-- bytes in place are a front of what they are at the front of
+plain_length : (rest bytes after front : List ℕ) → rest ≡ bytes ++ after → bytes ≡ front → length front ≤ length rest
+plain_length rest bytes after front parts is = omega (arith, ap length parts, ap length is, length-append bytes after)
+
+-- a front is no longer than what is whole
+front_in_whole : (told : Framing) (rest front content : List ℕ) → FrontAt told rest front → EndsWhole told rest content → length front ≤ length content
+front_in_whole framing.Chunked rest front content f whole =
+    longer content front
+    (brings_more f.bytes f.after front f.brings.brought [] content whole.0
+    (subst (λ (t : List ℕ). IsChunked t content whole.0) (f.parts ∙ sym (append-nil (f.bytes ++ f.after))) whole.1))
+front_in_whole (framing.Counted count) rest front content f whole = omega (arith, f.brings.1, whole.2)
+front_in_whole framing.ToEnd rest front content f whole =
+    omega (arith, plain_length rest f.bytes f.after front f.parts f.brings, ap length whole)
+
+-- nor than what came of a short one
+front_in_short : (told : Framing) (rest front content : List ℕ) (length_told : Option ℕ) → FrontAt told rest front
+    → EndsShort told rest content length_told → length front ≤ length content
+front_in_short framing.Chunked rest front content length_told f short =
+    longer content front (short.0.all front (subst (λ (t : List ℕ). Brings t front) (sym f.parts) (brings_more f.bytes f.after front f.brings.brought)))
+front_in_short (framing.Counted count) rest front content length_told f short =
+    omega (arith, plain_length rest f.bytes f.after front f.parts f.brings.0, ap length short.0)
+front_in_short framing.ToEnd rest front content length_told f short = absurd short
+
+-- two fronts of one length are the same
+one_front_at : (told : Framing) (rest a b : List ℕ) → FrontAt told rest a → FrontAt told rest b → length a ≡ length b → a ≡ b
+one_front_at framing.Chunked rest a b x y size = of_case (fronts x.bytes x.after y.bytes y.after (sym x.parts ∙ y.parts))
+  where
+    of_case : Begins x.bytes y.bytes ⊎ Begins y.bytes x.bytes → a ≡ b
+    of_case (inl h) = same_begun a b size (x.brings.all b (subst (λ (t : List ℕ). Brings t b) (sym h.parts) (brings_more y.bytes h.rest b y.brings.brought)))
+    of_case (inr h) = sym (same_begun b a (sym size) (y.brings.all a (subst (λ (t : List ℕ). Brings t a) (sym h.parts) (brings_more x.bytes h.rest a x.brings.brought))))
+one_front_at (framing.Counted count) rest a b x y size =
+    same_front a x.after b y.after (ap (λ t. t ++ x.after) (sym x.brings.0) ∙ sym x.parts ∙ y.parts ∙ ap (λ t. t ++ y.after) y.brings.0) size
+one_front_at framing.ToEnd rest a b x y size =
+    same_front a x.after b y.after (ap (λ t. t ++ x.after) (sym x.brings) ∙ sym x.parts ∙ y.parts ∙ ap (λ t. t ++ y.after) y.brings) size
+
+-- ---- the wanted content
+
+-- what is wanted ends so behind this head
+abbrev EndsSo : Wanted → ResponseHead → List ℕ → Ending → Type 0
+EndsSo wanted head stream (Whole content) = IsAllOf wanted head stream content
+EndsSo wanted head stream (Short content told) = IsShortOf wanted head stream content told
+EndsSo wanted head stream (BadlyChunked content) = IsBadOf wanted head stream content
+EndsSo wanted head stream (Overfull content) = IsOverOf wanted head stream content
+
+record EndsBehind (wanted : Wanted) (stream : List ℕ) (ending : Ending) : Type 0 where
+  head : ResponseHead
+  ends : EndsSo wanted head stream ending
+
+ends_behind : (wanted : Wanted) (stream : List ℕ) (ending : Ending) → IsEnding wanted stream ending → EndsBehind wanted stream ending
+ends_behind wanted stream (Whole content) e = record { head = e.head; ends = e.all }
+ends_behind wanted stream (Short content told) e = record { head = e.head; ends = e.lacks }
+ends_behind wanted stream (BadlyChunked content) e = record { head = e.head; ends = e.breaks }
+ends_behind wanted stream (Overfull content) e = record { head = e.head; ends = e.over }
+
+-- of a whole content it is the ending of what is framed
+framed_ends : (head : ResponseHead) (stream : List ℕ) (ending : Ending) → EndsSo asks.Whole head stream ending
+    → IsFramedEnding asks.Whole head stream ending
+framed_ends head stream (Whole content) e = e
+framed_ends head stream (Short content told) e = e
+framed_ends head stream (BadlyChunked content) e = e
+framed_ends head stream (Overfull content) e = e
+
+module _ (first last : ℕ) (tag : List ℕ) (known : ℕ) (stream : List ℕ) where
+  abbrev part : Wanted
+  part = asks.Part first last tag known
+
+  -- two heads of one stream are one, and tell one size
+  one_size : (head other : ResponseHead) (m n : ℕ) → head ≡ other → HasPartSize first last tag known head m → HasPartSize first last tag known other n → m ≡ n
+  one_size head other m n same x y =
+      let moved = subst (λ (h : ResponseHead). HasPartSize first last tag known h m) same x in
+      moved.size_is ∙ ap (part_size first) (one_part moved.asked y.asked).to_is ∙ sym y.size_is
+
+  head_of_end : (head : ResponseHead) (content : List ℕ) → HasFramedEnd part head stream content → HasFramedHead part head stream
+  head_of_end head content (inl whole) = record { framing = whole.framing; rest = whole.rest; begins = whole.begins }
+  head_of_end head content (inr short) = record { framing = short.1.framing; rest = short.1.rest; begins = short.1.begins }
+
+  -- a part that is whole is no longer than what ended
+  all_in_end : (head other : ResponseHead) (front content : List ℕ) → IsFramedFront part head stream front → HasFramedEnd part other stream content
+      → length front ≤ length content
+  all_in_end head other front content f (inl whole) =
+      front_in_whole whole.framing whole.rest front content (front_at f whole.begins) whole.whole
+  all_in_end head other front content f (inr short) =
+      front_in_short short.1.framing short.1.rest front content short.0 (front_at f short.1.begins) short.1.short
+
+  all_in_bad : (head other : ResponseHead) (front content : List ℕ) → IsFramedFront part head stream front → IsFramedBadly part other stream content
+      → length front ≤ length content
+  all_in_bad head other front content f bad =
+      let at = front_at f bad.begins in longer content front (front_in_bad at.after at.parts at.brings bad.bad)
+
+  one_end : (head other : ResponseHead) (a b : List ℕ) → HasFramedEnd part head stream a → HasFramedEnd part other stream b → a ≡ b
+  one_end head other a b (inl x) (inl y) =
+      let same = one_framed_ending part head other stream (Whole a) (Whole b) x y in cc
+  one_end head other a b (inl x) (inr y) =
+      let same = one_framed_ending part head other stream (Whole a) (Short b y.0) x y.1 in absurd cc
+  one_end head other a b (inr x) (inl y) =
+      let same = one_framed_ending part head other stream (Short a x.0) (Whole b) x.1 y in absurd cc
+  one_end head other a b (inr x) (inr y) =
+      let same = one_framed_ending part head other stream (Short a x.0) (Short b y.0) x.1 y.1 in cc
+
+  end_not_bad : (head other : ResponseHead) (a b : List ℕ) → HasFramedEnd part head stream a → IsFramedBadly part other stream b → ⊥
+  end_not_bad head other a b (inl x) y =
+      let same = one_framed_ending part head other stream (Whole a) (BadlyChunked b) x y in absurd cc
+  end_not_bad head other a b (inr x) y =
+      let same = one_framed_ending part head other stream (Short a x.0) (BadlyChunked b) x.1 y in absurd cc
+
+  same_heads : {head other : ResponseHead} → HasFramedHead part head stream → HasFramedHead part other stream → head ≡ other
+  same_heads {head} {other} x y =
+      let same = one_outcome part stream (Content head x.framing x.rest) (Content other y.framing y.rest) x.begins y.begins in cc
+
+  head_of_front : {head : ResponseHead} {content : List ℕ} → IsFramedFront part head stream content → HasFramedHead part head stream
+  head_of_front f = record { framing = f.framing; rest = f.bytes ++ f.after; begins = f.begins }
+
+  head_of_bad : {head : ResponseHead} {content : List ℕ} → IsFramedBadly part head stream content → HasFramedHead part head stream
+  head_of_bad f = record { framing = framing.Chunked; rest = f.rest; begins = f.begins }
+
+  one_part_ending : (head other : ResponseHead) (a b : Ending) → EndsSo part head stream a → EndsSo part other stream b → a ≡ b
+  one_part_ending head other (Whole a) (Whole b) x y =
+      let same = same_heads (head_of_front x.front) (head_of_front y.front) in
+      let size = one_size head other x.size y.size same x.has_size y.has_size in
+      ap Whole (one_front_at y.front.framing (y.front.bytes ++ y.front.after) a b (front_at x.front y.front.begins) (front_at y.front y.front.begins)
+      (x.all ∙ size ∙ sym y.all))
+  one_part_ending head other (Whole a) (Short b v) x y =
+      let same = same_heads (head_of_front x.front) (head_of_end other b y.ended) in
+      let size = one_size head other x.size y.size same x.has_size y.has_size in
+      absurd (omega (arith, all_in_end head other a b x.front y.ended, x.all, y.lacks, size))
+  one_part_ending head other (Whole a) (BadlyChunked b) x y =
+      let same = same_heads (head_of_front x.front) (head_of_bad y.bad) in
+      let size = one_size head other x.size y.size same x.has_size y.has_size in
+      absurd (omega (arith, all_in_bad head other a b x.front y.bad, x.all, y.lacks, size))
+  one_part_ending head other (Short a v) (Whole b) x y =
+      let same = same_heads (head_of_front y.front) (head_of_end head a x.ended) in
+      let size = one_size other head y.size x.size same y.has_size x.has_size in
+      absurd (omega (arith, all_in_end other head b a y.front x.ended, y.all, x.lacks, size))
+  one_part_ending head other (Short a v) (Short b w) x y =
+      let content = one_end head other a b x.ended y.ended in
+      let same = same_heads (head_of_end head a x.ended) (head_of_end other b y.ended) in
+      let size = one_size head other x.size y.size same x.has_size y.has_size in
+      let told : v ≡ w = x.told_is ∙ ap (λ (n : ℕ). Some n) size ∙ sym y.told_is in
+      cc
+  one_part_ending head other (Short a v) (BadlyChunked b) x y = absurd (end_not_bad head other a b x.ended y.bad)
+  one_part_ending head other (BadlyChunked a) (Whole b) x y =
+      let same = same_heads (head_of_front y.front) (head_of_bad x.bad) in
+      let size = one_size other head y.size x.size same y.has_size x.has_size in
+      absurd (omega (arith, all_in_bad other head b a y.front x.bad, y.all, x.lacks, size))
+  one_part_ending head other (BadlyChunked a) (Short b w) x y = absurd (end_not_bad other head b a y.ended x.bad)
+  one_part_ending head other (BadlyChunked a) (BadlyChunked b) x y =
+      let same = one_framed_ending part head other stream (BadlyChunked a) (BadlyChunked b) x.bad y.bad in cc
+  one_part_ending head other (Overfull a) b x y = absurd x
+  one_part_ending head other (Whole a) (Overfull b) x y = absurd y
+  one_part_ending head other (Short a v) (Overfull b) x y = absurd y
+  one_part_ending head other (BadlyChunked a) (Overfull b) x y = absurd y
+
+one_so : (wanted : Wanted) (stream : List ℕ) (head other : ResponseHead) (a b : Ending) → EndsSo wanted head stream a → EndsSo wanted other stream b → a ≡ b
+one_so asks.Whole stream head other a b x y =
+    one_framed_ending asks.Whole head other stream a b (framed_ends head stream a x) (framed_ends other stream b y)
+one_so (asks.Part first last tag known) stream head other a b x y = one_part_ending first last tag known stream head other a b x y
+
+pub one_ending : OneEnding
+one_ending wanted stream a b is other =
+    let x = ends_behind wanted stream a is in
+    let y = ends_behind wanted stream b other in
+    one_so wanted stream x.head y.head a b x.ends y.ends
 
 -- ---- what is whole is nothing else
 
-one_whole : (stream content other : List ℕ) → IsWhole stream content → IsWhole stream other → content ≡ other
-one_whole stream content other w v = let same = one_ending stream (Whole content) (Whole other) w v in cc
+head_of_all : (wanted : Wanted) (head : ResponseHead) (stream content : List ℕ) → IsAllOf wanted head stream content → HasFramedHead wanted head stream
+head_of_all asks.Whole head stream content all = record { framing = all.framing; rest = all.rest; begins = all.begins }
+head_of_all (asks.Part first last tag known) head stream content all =
+    record { framing = all.front.framing; rest = all.front.bytes ++ all.front.after; begins = all.front.begins }
 
-whole_no_redirect : (stream content : List ℕ) (head : ResponseHead) (location : List ℕ) → IsWhole stream content → BeginsRedirect stream head location → ⊥
-whole_no_redirect stream content head location w r =
-    let same = one_outcome stream (Content w.head w.framing w.rest) (Redirect head location) w.begins r in
+one_whole : (wanted : Wanted) (stream content other : List ℕ) → IsWhole wanted stream content → IsWhole wanted stream other → content ≡ other
+one_whole wanted stream content other w v = let same = one_ending wanted stream (Whole content) (Whole other) w v in cc
+
+whole_no_redirect : (wanted : Wanted) (stream content : List ℕ) (head : ResponseHead) (location : List ℕ) → IsWhole wanted stream content → BeginsRedirect wanted stream head location → ⊥
+whole_no_redirect wanted stream content head location w r =
+    let h = head_of_all wanted w.head stream content w.all in
+    let same = one_outcome wanted stream (Content w.head h.framing h.rest) (Redirect head location) h.begins r in
     absurd cc
 
-whole_head : (stream content : List ℕ) (broke : Cause) → IsWhole stream content → HeadBroke stream broke → IsOfWire broke
-whole_head stream content broke w (inl wire) = wire
-whole_head stream content broke w (inr (inl ninth)) =
-    let same = one_outcome stream (Content w.head w.framing w.rest) (Ninth ninth.0) w.begins ninth.2 in
+whole_head : (wanted : Wanted) (stream content : List ℕ) (broke : Cause) → IsWhole wanted stream content → HeadBroke wanted stream broke → IsOfWire broke
+whole_head wanted stream content broke w (inl wire) = wire
+whole_head wanted stream content broke w (inr (inl ninth)) =
+    let h = head_of_all wanted w.head stream content w.all in
+    let same = one_outcome wanted stream (Content w.head h.framing h.rest) (Ninth ninth.0) h.begins ninth.2 in
     absurd cc
-whole_head stream content broke w (inr (inr met)) =
-    let same = one_outcome stream (Content w.head w.framing w.rest) (Broke broke) w.begins met in
+whole_head wanted stream content broke w (inr (inr met)) =
+    let h = head_of_all wanted w.head stream content w.all in
+    let same = one_outcome wanted stream (Content w.head h.framing h.rest) (Broke broke) h.begins met in
     absurd cc
 
-whole_content : (stream content given : List ℕ) (broke : Cause) → IsWhole stream content → ContentBroke stream given broke
+whole_content : (wanted : Wanted) (stream content given : List ℕ) (broke : Cause) → IsWhole wanted stream content → ContentBroke wanted stream given broke
     → IsOfWire broke ⊎ (broke ≡ cause.Memory)
-whole_content stream content given cause.NetFailed w met = inl (inl refl)
-whole_content stream content given cause.NetTimeout w met = inl (inr refl)
-whole_content stream content given cause.Memory w met = inr refl
-whole_content stream content given (cause.ContentShort have wanted) w met =
-    let same = one_ending stream (Whole content) (Short given wanted) w met.0 in absurd cc
-whole_content stream content given cause.BadFraming w met =
-    let same = one_ending stream (Whole content) (BadlyChunked given) w met in absurd cc
-whole_content stream content given (cause.TooLarge total) w met =
-    let same = one_ending stream (Whole content) (Overfull given) w met.0 in absurd cc
-whole_content stream content given cause.HeadCut w met = absurd met
-whole_content stream content given (cause.Status status) w met = absurd met
-whole_content stream content given cause.BadHead w met = absurd met
-whole_content stream content given cause.Encoded w met = absurd met
-whole_content stream content given (cause.File kind) w met = absurd met
-whole_content stream content given cause.NamesTaken w met = absurd met
-whole_content stream content given cause.BothStand w met = absurd met
-whole_content stream content given (cause.PartShort have wanted) w met = absurd met
-whole_content stream content given (cause.DigestDiffers have wanted) w met = absurd met
-whole_content stream content given cause.NetNoRoute w met = absurd met
-whole_content stream content given cause.NetRefused w met = absurd met
-whole_content stream content given cause.BadLocation w met = absurd met
-whole_content stream content given cause.TooManyRedirects w met = absurd met
-whole_content stream content given (cause.RangeRefused status) w met = absurd met
-whole_content stream content given cause.Cancel w met = absurd met
-whole_content stream content given cause.Shutdown w met = absurd met
-whole_content stream content given cause.Crash w met = absurd met
+whole_content wanted stream content given cause.NetFailed w met = inl (inl refl)
+whole_content wanted stream content given cause.NetTimeout w met = inl (inr refl)
+whole_content wanted stream content given cause.Memory w met = inr refl
+whole_content wanted stream content given (cause.ContentShort have told) w met =
+    let same = one_ending wanted stream (Whole content) (Short given told) w met.0 in absurd cc
+whole_content wanted stream content given cause.BadFraming w met =
+    let same = one_ending wanted stream (Whole content) (BadlyChunked given) w met in absurd cc
+whole_content wanted stream content given (cause.TooLarge total) w met =
+    let same = one_ending wanted stream (Whole content) (Overfull given) w met.0 in absurd cc
+whole_content wanted stream content given cause.HeadCut w met = absurd met
+whole_content wanted stream content given (cause.Status status) w met = absurd met
+whole_content wanted stream content given cause.BadHead w met = absurd met
+whole_content wanted stream content given cause.Encoded w met = absurd met
+whole_content wanted stream content given (cause.File kind) w met = absurd met
+whole_content wanted stream content given cause.NamesTaken w met = absurd met
+whole_content wanted stream content given cause.BothStand w met = absurd met
+whole_content wanted stream content given (cause.PartShort have known) w met = absurd met
+whole_content wanted stream content given (cause.DigestDiffers have known) w met = absurd met
+whole_content wanted stream content given cause.NetNoRoute w met = absurd met
+whole_content wanted stream content given cause.NetRefused w met = absurd met
+whole_content wanted stream content given cause.BadLocation w met = absurd met
+whole_content wanted stream content given cause.TooManyRedirects w met = absurd met
+whole_content wanted stream content given (cause.RangeRefused status) w met = absurd met
+whole_content wanted stream content given cause.Cancel w met = absurd met
+whole_content wanted stream content given cause.Shutdown w met = absurd met
+whole_content wanted stream content given cause.Crash w met = absurd met
 
 pub whole_alone : WholeAlone
 whole_alone = record {

@@ -1,5 +1,6 @@
 -- What a reader holds, and how it is tied to the wire that it reads.
-use Rattle.std.specs.Prelude.{◌≡◌, ℕ, ◌+◌, ◌<◌, ◌≤◌, false, List, [], ◌++◌, length, take, Option, Some, None, IfSome, Result, Ok, Err}
+use Rattle.std.specs.Prelude.{◌≡◌, ◌↔◌, ℕ, ◌+◌, ◌<◌, ◌≤◌, IsTrue, codes, List, [], ◌++◌, length, take, Option, Some, None, IfSome, Result, Ok, Err}
+use Rattle.std.specs.Option.{option_map}
 use Rattle.httparse.specs.Grammar.{ResponseHead, status_code}
 use Rattle.dm_chunk.specs.Decoded.{HasDecoded}
 use Rattle.dm_chunk.specs.declared.Chunks.{Chunks}
@@ -7,8 +8,16 @@ use Rattle.dm_policy.specs.declared.cause.Cause.{Cause}
 use Rattle.dm_edge.specs.Wire.{Told, stream_of}
 use Rattle.dm_edge.specs.declared.framing.Framing.{Framing}
 use Rattle.dm_edge.specs.declared.framing.Framing.TheVariants as framing
-use Rattle.dm_edge.specs.Reply.{BeginsContent, BeginsRedirect, IsWhole, HeadBroke, ContentBroke, most_content, told_total}
-use Rattle.dm_head.specs.Look.{modified_of}
+use Rattle.dm_edge.specs.declared.wanted.Wanted.{Wanted}
+use Rattle.dm_edge.specs.declared.wanted.Wanted.TheVariants.{Whole, Part}
+use Rattle.dm_edge.specs.Part.{IsAskedPart, part_size}
+use Rattle.dm_edge.specs.Reply.{BeginsContent, BeginsRedirect, IsFramedFront, IsWhole, HeadBroke, ContentBroke, most_content}
+use Rattle.dm_head.specs.declared.part.Extent.{Extent}
+use Rattle.dm_head.specs.Fit.{IsExtent, IsWithinLimit}
+use Rattle.dm_edge.specs.Fields.{NameAndValue, values_of, fields_of}
+use Rattle.dm_edge.specs.Metadata.{most_tag, IsStrongTag, IsOnlyValue, TakesRanges}
+use Rattle.dm_head.specs.Metadata.{modified_of}
+use Rattle.dm_head.specs.Modified.{most_modified}
 use Rattle.dm_reply.specs.declared.got.Got.{Got}
 use Rattle.dm_reply.specs.declared.got.Got.TheVariants as got
 use Rattle.dm_reply.specs.declared.head.Head.{Head}
@@ -19,7 +28,7 @@ use Rattle.dm_reply.specs.declared.head.Kind.TheVariants as kind
 use Rattle.dm_reply.specs.declared.body.Body.{Body}
 use Rattle.dm_reply.specs.declared.body.Body.TheVariants as body
 
--- a reader, as contracts see it
+-- how far a content was read
 pub record Reading : Type 0 where
   -- the bytes that were received and not given yet
   pub ahead : List ℕ
@@ -30,9 +39,16 @@ pub record Reading : Type 0 where
   -- the cause that ended it
   pub broke : Option Cause
 
+-- a reader, as contracts see it
+pub record Reader : Type 0 where
+  pub wanted : Wanted
+  -- how many bytes the part has, where one was found
+  pub size : Option ℕ
+  pub reading : Reading
+
 -- a reader that has read nothing
-abbrev pub unread : Reading
-unread = record { ahead = []; body = body.ToEnd; given = 0; broke = None }
+abbrev pub unread : Wanted → Reader
+unread wanted = record { wanted = wanted; size = None; reading = record { ahead = []; body = body.ToEnd; given = 0; broke = None } }
 
 abbrev pub framing_of : Body → Framing
 framing_of (body.Counted wanted) = framing.Counted wanted
@@ -51,52 +67,103 @@ Holds (body.Counted wanted) bytes content ahead = (bytes ≡ content ++ ahead) �
 Holds body.ToEnd bytes content ahead = bytes ≡ content ++ ahead
 Holds (body.Chunked chunks) bytes content ahead = HasChunks bytes content ahead chunks
 
--- From what a wire gave, the reader took a head with content and gave this content. It holds the rest.
-pub record HasRead (given : List ℕ) (reading : Reading) (content : List ℕ) : Type 0 where
-  pub head : ResponseHead
+-- From what a wire gave, this head with content was taken and this framed content was given. The rest is held.
+pub record HasFramed (wanted : Wanted) (head : ResponseHead) (given : List ℕ) (reading : Reading) (content : List ℕ) : Type 0 where
   pub bytes : List ℕ
-  pub begins : BeginsContent given head (framing_of reading.body) bytes
+  pub begins : BeginsContent wanted given head (framing_of reading.body) bytes
   pub holds : Holds reading.body bytes content reading.ahead
   pub count : reading.given ≡ length content
   pub limit : length content ≤ most_content
   pub unbroken : reading.broke ≡ None
+  pub front : IsFramedFront wanted head given content
+
+-- The head is that of the asked part, which has the size that is kept, and the content is no more than that.
+pub record HasPartOf (first last : ℕ) (tag : List ℕ) (known : ℕ) (head : ResponseHead) (size : Option ℕ) (content : List ℕ) : Type 0 where
+  pub count : ℕ
+  pub size_is : size ≡ Some count
+  pub to : ℕ
+  pub total : Option ℕ
+  pub asked : IsAskedPart first last tag known (fields_of head) to total
+  pub count_is : count ≡ part_size first to
+  pub within : length content ≤ count
+
+-- a size is kept for a part alone
+abbrev pub IsSized : Wanted → ResponseHead → Option ℕ → List ℕ → Type 0
+IsSized Whole head size content = size ≡ None
+IsSized (Part first last tag known) head size content = HasPartOf first last tag known head size content
+
+-- From what a wire gave, the reader took a head with the wanted content and gave this content. It holds the rest.
+pub record HasRead (wanted : Wanted) (given : List ℕ) (reader : Reader) (content : List ℕ) : Type 0 where
+  pub head : ResponseHead
+  pub framed : HasFramed wanted head given reader.reading content
+  pub sized : IsSized wanted head reader.size content
 
 -- the head of content that was read, or the address that the stream leads to
-abbrev pub KindSays : Told → Reading → ResponseHead → Kind → Type 0
-KindSays now reading head kind.Content = ((bytes : List ℕ) × BeginsContent now.given head (framing_of reading.body) bytes) × HasRead now.given reading []
-KindSays now reading head (kind.Redirect location) = BeginsRedirect (stream_of now) head location
+abbrev pub KindSays : Wanted → Told → Reader → ResponseHead → Kind → Type 0
+KindSays wanted now reader head kind.Content =
+    ((bytes : List ℕ) × BeginsContent wanted now.given head (framing_of reader.reading.body) bytes) × HasRead wanted now.given reader []
+KindSays wanted now reader head (kind.Redirect location) = BeginsRedirect wanted (stream_of now) head location
 
-abbrev pub total_told : Kind → Body → Option ℕ
-total_told kind.Content body = told_total (framing_of body)
-total_told (kind.Redirect location) body = None
+-- which bytes of the whole content come, as an answer of `head` says
+abbrev pub extent_of : Head → Extent
+extent_of told = record { first = told.first; last = told.last; total = told.total }
 
--- What an answer of `head` says of the stream. Tags, ranges and dispositions are not read yet.
-pub record HeadSays (now : Told) (reading : Reading) (told : Head) : Type 0 where
+-- no bytes come with a redirect
+abbrev pub no_extent : Extent
+no_extent = record { first = 0; last = None; total = None }
+
+-- the places of a head with content are those that its fields say
+abbrev pub ExtentSays : Wanted → ResponseHead → Framing → Head → Kind → Type 0
+ExtentSays wanted head framing told kind.Content = IsExtent wanted (fields_of head) framing (extent_of told)
+ExtentSays wanted head framing told (kind.Redirect location) = extent_of told ≡ no_extent
+
+-- how many bytes a part has, by its places
+abbrev pub size_told : Extent → Option ℕ
+size_told extent = option_map (part_size extent.first) extent.last
+
+-- What an answer of `head` says of the head's fields: its tag, whether ranges are given, and what it tells of the file.
+pub record FieldsSay (fields : List NameAndValue) (told : Head) : Type 0 where
+  pub strong_is : IsStrongTag fields told.strong
+  pub ranges_are : IsTrue told.ranges ↔ TakesRanges fields
+  pub disposition_is : IsOnlyValue (values_of (codes "content-disposition") fields) told.disposition
+  pub modified_is : told.modified ≡ modified_of fields
+
+-- What an answer of `head` says of the stream.
+pub record HeadSays (wanted : Wanted) (now : Told) (reader : Reader) (told : Head) : Type 0 where
   pub head : ResponseHead
-  pub kind_is : KindSays now reading head told.kind
+  pub kind_is : KindSays wanted now reader head told.kind
   pub status_is : told.status ≡ status_code head
-  pub total_is : told.total ≡ total_told told.kind reading.body
-  pub modified_is : told.modified ≡ modified_of head
+  pub extent_is : ExtentSays wanted head (framing_of reader.reading.body) told told.kind
+  pub fields_say : FieldsSay (fields_of head) told
 
--- What each head that is answered has, also where the wire doesn't tell: a total within the limit, and none of what isn't read yet.
-pub record IsPlainHead (told : Head) : Type 0 where
-  pub limit : IfSome told.total (λ total. total ≤ most_content)
-  pub strong : told.strong ≡ None
-  pub first : told.first ≡ 0
-  pub last : told.last ≡ None
-  pub ranges : told.ranges ≡ false
-  pub disposition : told.disposition ≡ None
+-- a last place is told, and is at most this one
+abbrev pub EndsBy : ℕ → Option ℕ → Type 0
+EndsBy last None = ⊥
+EndsBy last (Some to) = to ≤ last
+
+-- The places of each head that is answered: of a whole content none but the first, of a part those that were asked or some before the asked end.
+abbrev pub PlacesSay : Wanted → Head → Kind → Type 0
+PlacesSay wanted told (kind.Redirect location) = extent_of told ≡ no_extent
+PlacesSay Whole told kind.Content = (told.first ≡ 0) × (told.last ≡ None)
+PlacesSay (Part first last tag known) told kind.Content = (told.first ≡ first) × EndsBy last told.last
+
+-- What each head that is answered has, also where the wire doesn't tell: its places, and lengths within their limits.
+pub record IsPlainHead (wanted : Wanted) (told : Head) : Type 0 where
+  pub places : PlacesSay wanted told told.kind
+  pub limit : IsWithinLimit (extent_of told)
+  pub strong : IfSome told.strong (λ tag. length tag ≤ most_tag)
+  pub modified : length told.modified ≤ most_modified
 
 -- what a refusal of `head` says of the whole stream. Want of memory says nothing
-abbrev pub HeadBreaks : List ℕ → HeadFault → Type 0
-HeadBreaks stream (fault.Broke cause) = HeadBroke stream cause
-HeadBreaks stream fault.NoMemory = Unit {0}
+abbrev pub HeadBreaks : Wanted → List ℕ → HeadFault → Type 0
+HeadBreaks wanted stream (fault.Broke cause) = HeadBroke wanted stream cause
+HeadBreaks wanted stream fault.NoMemory = Unit {0}
 
 -- What an answer of `content` says, where this content was given before. The buffer is the one at the return.
-abbrev pub ContentSays : Told → Reading → Result Got Cause → List ℕ → List ℕ → Type 0
-ContentSays now new (Ok (got.Bytes n)) buffer content = HasRead now.given new (content ++ take n buffer)
-ContentSays now new (Ok got.End) buffer content = IsWhole (stream_of now) content × HasRead now.given new content
-ContentSays now new (Err cause) buffer content = ContentBroke (stream_of now) content cause × (new.broke ≡ Some cause)
+abbrev pub ContentSays : Wanted → Told → Reader → Result Got Cause → List ℕ → List ℕ → Type 0
+ContentSays wanted now new (Ok (got.Bytes n)) buffer content = HasRead wanted now.given new (content ++ take n buffer)
+ContentSays wanted now new (Ok got.End) buffer content = IsWhole wanted (stream_of now) content × HasRead wanted now.given new content
+ContentSays wanted now new (Err cause) buffer content = ContentBroke wanted (stream_of now) content cause × (new.reading.broke ≡ Some cause)
 
 -- Each answer with bytes gives at least one, and the content keeps its limit.
 abbrev pub Advances : Reading → Reading → Result Got Cause → ℕ → Type 0

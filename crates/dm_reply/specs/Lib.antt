@@ -7,4 +7,5 @@ pub mod Reader
 pub mod Steps
 pub mod Found
 pub mod Laws
+pub mod Part
 pub mod Unfinished

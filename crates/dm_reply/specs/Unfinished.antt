@@ -6,7 +6,9 @@ use Rattle.dm_policy.specs.declared.cause.Cause.TheVariants as cause
 use Rattle.dm_edge.specs.declared.framing.Framing.{Framing}
 use Rattle.dm_edge.specs.declared.framing.Framing.TheVariants as framing
 use Rattle.dm_edge.specs.Head.{ComesTo}
-use Rattle.dm_edge.specs.Reply.{BeginsContent, Brings, IsOfWire}
+use Rattle.dm_edge.specs.declared.wanted.Wanted.{Wanted}
+use Rattle.dm_edge.specs.declared.wanted.Wanted.TheVariants.{Whole, Part}
+use Rattle.dm_edge.specs.Reply.{BeginsContent, Brings, HasSize, IsOfWire}
 use Rattle.dm_head.specs.Look.{IsOpen}
 use Rattle.dm_reply.specs.declared.got.Got.{Got}
 use Rattle.dm_reply.specs.declared.head.HeadFault.{HeadFault}
@@ -18,19 +20,43 @@ Lacks (framing.Counted count) content = length content < count
 Lacks framing.ToEnd content = Unit {0}
 Lacks framing.Chunked content = Unit {0}
 
--- All that was given behind the head brought this content and no more, and it isn't whole by that.
-pub record IsUnfinished (given content : List ℕ) : Type 0 where
-  pub head : ResponseHead
+-- All that was given behind this head brought this framed content and no more, and it isn't whole by that.
+pub record IsFramedUnfinished (wanted : Wanted) (head : ResponseHead) (given content : List ℕ) : Type 0 where
   pub framing : Framing
   pub bytes : List ℕ
-  pub begins : BeginsContent given head framing bytes
+  pub begins : BeginsContent wanted given head framing bytes
   pub brings : Brings framing bytes content
   pub lacks : Lacks framing content
 
+-- and the part that is wanted lacks bytes
+pub record IsUnfinishedPart (wanted : Wanted) (head : ResponseHead) (given content : List ℕ) : Type 0 where
+  pub size : ℕ
+  pub has_size : HasSize wanted head size
+  pub framed : IsFramedUnfinished wanted head given content
+  pub lacks : length content < size
+
+-- the wanted content behind this head isn't whole by what was given
+abbrev pub StaysOpen : Wanted → ResponseHead → List ℕ → List ℕ → Type 0
+StaysOpen Whole head given content = IsFramedUnfinished Whole head given content
+StaysOpen (Part first last tag known) head given content = IsUnfinishedPart (Part first last tag known) head given content
+
+-- The content so far is all that was brought, and isn't whole.
+pub record IsUnfinished (wanted : Wanted) (given content : List ℕ) : Type 0 where
+  pub head : ResponseHead
+  pub open_content : StaysOpen wanted head given content
+
+-- after a fault of the wire, or where it had no memory, this holds
+abbrev pub LeavesBy : Type 0 → Result Got Cause → Type 0
+LeavesBy Unfinished (Ok got) = Unit {0}
+LeavesBy Unfinished (Err broke) = IsOfWire broke ⊎ (broke ≡ cause.Memory) → Unfinished
+
 -- After a fault of the wire, or where it had no memory, the content so far is unfinished.
-abbrev pub LeavesContent : List ℕ → List ℕ → Result Got Cause → Type 0
-LeavesContent given content (Ok got) = Unit {0}
-LeavesContent given content (Err broke) = IsOfWire broke ⊎ (broke ≡ cause.Memory) → IsUnfinished given content
+abbrev pub LeavesContent : Wanted → List ℕ → List ℕ → Result Got Cause → Type 0
+LeavesContent wanted given content result = LeavesBy (IsUnfinished wanted given content) result
+
+-- the same, of the framed content
+abbrev pub LeavesFramed : Wanted → ResponseHead → List ℕ → List ℕ → Result Got Cause → Type 0
+LeavesFramed wanted head given content result = LeavesBy (IsFramedUnfinished wanted head given content) result
 
 -- Behind the interim heads no whole head was given, and one may come.
 pub record IsHeadOpen (given : List ℕ) : Type 0 where

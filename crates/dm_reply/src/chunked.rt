@@ -1,11 +1,13 @@
 //! Content that comes in chunks (RFC 9112, section 7.1).
 ghost use Rattle.std.specs.Prelude.{◌≡◌, ◌<◌, ◌≤◌, ◌-◌, ℕ, List, length, min, max};
+ghost use Rattle.httparse.specs.Grammar.{ResponseHead};
 ghost use Rattle.dm_types.specs.Faults.{HasCause};
+ghost use Rattle.dm_edge.specs.declared.wanted.Wanted.{Wanted};
 ghost use Rattle.dm_edge.specs.Reply.{most_content};
-ghost use Rattle.dm_reply.specs.Content.{HasRead, ContentSays};
+ghost use Rattle.dm_reply.specs.Content.{HasFramed};
 ghost use Rattle.dm_reply.specs.Faults.{cause_kind};
-ghost use Rattle.dm_reply.specs.Unfinished.{LeavesContent};
-ghost use Rattle.dm_reply.specs.Steps.{going, settled, KeepsTo};
+ghost use Rattle.dm_reply.specs.Unfinished.{LeavesFramed};
+ghost use Rattle.dm_reply.specs.Steps.{going, settled, KeepsTo, FramedSays};
 ghost use Rattle.dm_reply.specs.declared.body.Body.TheVariants as body;
 
 use crate::Got;
@@ -27,10 +29,10 @@ pub fn give_chunked<W: Wire>(
     requires room { 0 < length buf.old }
     requires within { given ≤ most_content }
     ensures keeps { KeepsTo most_content given (length buf.old) result }
-    ensures says { W.tells → (content : List ℕ) → HasRead (W.told wire.old).given (going ahead.old (body.Chunked chunks.old) given) content
-        → ContentSays (W.told wire.new) (settled (going ahead.new (body.Chunked chunks.new) given) result) result buf.new content }
-    ensures unfinished { W.tells → (content : List ℕ) → HasRead (W.told wire.old).given (going ahead.old (body.Chunked chunks.old) given) content
-        → LeavesContent (W.told wire.new).given content result }
+    ensures says { W.tells → (wanted : Wanted) (head : ResponseHead) (content : List ℕ) → HasFramed wanted head (W.told wire.old).given (going ahead.old (body.Chunked chunks.old) given) content
+        → FramedSays wanted head (W.told wire.new) (settled (going ahead.new (body.Chunked chunks.new) given) result) result buf.new content }
+    ensures unfinished { W.tells → (wanted : Wanted) (head : ResponseHead) (content : List ℕ) → HasFramed wanted head (W.told wire.old).given (going ahead.old (body.Chunked chunks.old) given) content
+        → LeavesFramed wanted head (W.told wire.new).given content result }
     ensures sent { W.tells → (W.told wire.new).sent ≡ (W.told wire.old).sent }
     ensures stays { (W.asked wire.new ≡ W.asked wire.old) × (W.origin wire.new ≡ W.origin wire.old) }
     ensures cause { HasCause cause_kind (W.faults wire.old) (W.faults wire.new) result }

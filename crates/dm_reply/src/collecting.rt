@@ -4,19 +4,19 @@ ghost use Rattle.dm_edge.specs.Wire.{stream_of};
 ghost use Rattle.dm_edge.specs.Reply.{IsWhole};
 ghost use Rattle.dm_reply.specs.Collected.{CollectBreaks};
 
-use crate::{Got, HeadFault, Kind, ReplyReader};
+use crate::{Got, HeadFault, Kind, ReplyReader, Wanted};
 use dm_edge::Wire;
 use dm_policy::Cause;
 use std::alloc::Global;
 
 /// The content in memory: what a caller learns from the clauses of `head` and `content`.
-pub fn collected<W: Wire>(alloc: Global, wire: &mut W) -> Result<Vec<u8>, HeadFault>
+pub fn collected<W: Wire>(alloc: Global, wire: &mut W, wanted: Wanted) -> Result<Vec<u8>, HeadFault>
     ensures whole { W.tells → (W.told wire.old).given ≡ []
-        → IfOk result (λ content. IsWhole (stream_of (W.told wire.new)) content.items) }
+        → IfOk result (λ content. IsWhole wanted (stream_of (W.told wire.new)) content.items) }
     ensures broke { W.tells → (W.told wire.old).given ≡ []
-        → IfErr result (CollectBreaks (stream_of (W.told wire.new))) }
+        → IfErr result (CollectBreaks wanted (stream_of (W.told wire.new))) }
 {
-    let mut reader = match ReplyReader::new(alloc) {
+    let mut reader = match ReplyReader::new(alloc, wanted) {
         Ok(reader) => reader,
         Err(_) => return Err(HeadFault::NoMemory),
     };

@@ -1,9 +1,10 @@
 //! A whole head, and what it makes of the reader.
-ghost use Rattle.std.specs.Prelude.{◌≡◌, ◌≤◌, length, drop, false, None, IfOk, IfErr};
+ghost use Rattle.std.specs.Prelude.{◌≡◌, ◌≤◌, length, drop, IfOk, IfErr, IfSome};
+ghost use Rattle.std.specs.Option.{option_map};
 ghost use Rattle.httparse.specs.Spans.{IsWithin, span_bytes};
-ghost use Rattle.dm_edge.specs.Reply.{KeepsLimit, most_content, told_total};
-ghost use Rattle.dm_reply.specs.Content.{IsPlainHead};
-ghost use Rattle.dm_reply.specs.Found.{Starts, IsContentHead, IsRedirectHead};
+ghost use Rattle.dm_edge.specs.Reply.{KeepsLimit, most_content};
+ghost use Rattle.dm_reply.specs.Content.{extent_of};
+ghost use Rattle.dm_reply.specs.Found.{AreShort, AreWithin, HasTexts, IsShortHead, Starts, IsContentHead, IsRedirectHead};
 ghost use Rattle.dm_reply.specs.Steps.{most_of};
 ghost use Rattle.dm_reply.specs.declared.head.HeadFault.TheVariants as faults;
 
@@ -12,12 +13,17 @@ use crate::body::Body;
 use crate::{Head, HeadFault, Kind};
 use dm_chunk::Chunks;
 use dm_edge::Framing;
+use dm_head::{Extent, Metadata};
 use dm_types::Text;
 use httparse::spans::Span;
 use std::alloc::Global;
 
-/// The status that has content (RFC 9110, section 15.3.1).
-const OK_STATUS: u16 = 200;
+/// No bytes come.
+const NO_EXTENT: Extent = Extent {
+    first: 0,
+    last: None,
+    total: None,
+};
 
 /// A head, and how its content is to be read.
 #[derive(Drop)]
@@ -26,32 +32,32 @@ pub struct Found {
     pub body: Body,
 }
 
-/// A head with content, which begins at this place ahead.
+/// A head with content of this status, which begins at this place ahead.
 pub fn content_head(
     alloc: Global,
     ahead: &mut Ahead,
+    status: u16,
     start: usize,
     framing: Framing,
-    modified: Span,
+    extent: Extent,
+    metadata: Metadata,
 ) -> Result<Found, HeadFault>
-    requires within { (start ≤ length ahead.old) × IsWithin (length ahead.old) modified }
+    requires within { (start ≤ length ahead.old) × AreWithin (length ahead.old) metadata }
     requires limit { KeepsLimit framing }
-    ensures found { IfOk result (IsContentHead framing (span_bytes ahead.old modified)) }
-    ensures plain { IfOk result (λ found. IsPlainHead found.head) }
+    requires short { AreShort ahead.old metadata }
+    ensures found { IfOk result (IsContentHead status framing extent ahead.old metadata) }
+    ensures short { IfOk result (λ found. IsShortHead found.head) }
     ensures limit { IfOk result (λ found. most_of found.body ≤ most_content) }
     ensures after { IfOk result (λ _. ahead.new ≡ drop start ahead.old) }
     ensures memory { IfErr result (λ fault. fault ≡ faults.NoMemory) }
 {
-    let modified = match text_at(alloc, ahead, modified) {
-        Ok(modified) => modified,
+    let head = match head_of(alloc, ahead, Kind::Content, status, extent, metadata) {
+        Ok(head) => head,
         Err(fault) => return Err(fault),
     };
     ahead.pass(start);
     Ok(Found {
-        head: Head {
-            total: total_of(framing),
-            ..plain_head(Kind::Content, OK_STATUS, modified)
-        },
+        head,
         body: body_of(framing),
     })
 }
@@ -62,11 +68,12 @@ pub fn redirect_head(
     ahead: &Ahead,
     status: u16,
     location: Span,
-    modified: Span,
+    metadata: Metadata,
 ) -> Result<Found, HeadFault>
-    requires within { IsWithin (length ahead.now) location × IsWithin (length ahead.now) modified }
-    ensures found { IfOk result (IsRedirectHead status (span_bytes ahead.now location) (span_bytes ahead.now modified)) }
-    ensures plain { IfOk result (λ found. IsPlainHead found.head) }
+    requires within { IsWithin (length ahead.now) location × AreWithin (length ahead.now) metadata }
+    requires short { AreShort ahead.now metadata }
+    ensures found { IfOk result (IsRedirectHead status (span_bytes ahead.now location) ahead.now metadata) }
+    ensures short { IfOk result (λ found. IsShortHead found.head) }
     ensures limit { IfOk result (λ found. most_of found.body ≤ most_content) }
     ensures memory { IfErr result (λ fault. fault ≡ faults.NoMemory) }
 {
@@ -74,14 +81,84 @@ pub fn redirect_head(
         Ok(location) => location,
         Err(fault) => return Err(fault),
     };
-    let modified = match text_at(alloc, ahead, modified) {
-        Ok(modified) => modified,
+    match head_of(
+        alloc,
+        ahead,
+        Kind::Redirect(location),
+        status,
+        NO_EXTENT,
+        metadata,
+    ) {
+        Ok(head) => Ok(Found {
+            head,
+            body: Body::ToEnd,
+        }),
+        Err(fault) => Err(fault),
+    }
+}
+
+/// A head of this kind, with what its fields say of the content.
+fn head_of(
+    alloc: Global,
+    ahead: &Ahead,
+    kind: Kind,
+    status: u16,
+    extent: Extent,
+    metadata: Metadata,
+) -> Result<Head, HeadFault>
+    requires within { AreWithin (length ahead.now) metadata }
+    requires short { AreShort ahead.now metadata }
+    ensures kind { IfOk result (λ head. head.kind ≡ kind) }
+    ensures status { IfOk result (λ head. head.status ≡ status) }
+    ensures extent { IfOk result (λ head. extent_of head ≡ extent) }
+    ensures texts { IfOk result (HasTexts ahead.now metadata) }
+    ensures short { IfOk result IsShortHead }
+    ensures memory { IfErr result (λ fault. fault ≡ faults.NoMemory) }
+{
+    let Metadata {
+        strong,
+        ranges,
+        disposition,
+        modified,
+    } = metadata;
+    let Extent { first, last, total } = extent;
+    let strong = match text_if(alloc, ahead, strong) {
+        Ok(strong) => strong,
         Err(fault) => return Err(fault),
     };
-    Ok(Found {
-        head: plain_head(Kind::Redirect(location), status, modified),
-        body: Body::ToEnd,
-    })
+    let disposition = match text_if(alloc, ahead, disposition) {
+        Ok(disposition) => disposition,
+        Err(fault) => return Err(fault),
+    };
+    match text_at(alloc, ahead, modified) {
+        Ok(modified) => Ok(Head {
+            kind,
+            status,
+            strong,
+            first,
+            last,
+            total,
+            ranges,
+            disposition,
+            modified,
+        }),
+        Err(fault) => Err(fault),
+    }
+}
+
+/// The bytes ahead that the span covers, where there is one.
+fn text_if(alloc: Global, ahead: &Ahead, span: Option<Span>) -> Result<Option<Text>, HeadFault>
+    requires { IfSome span (IsWithin (length ahead.now)) }
+    ensures text { IfOk result (λ text. text ≡ option_map (span_bytes ahead.now) span) }
+    ensures memory { IfErr result (λ fault. fault ≡ faults.NoMemory) }
+{
+    match span {
+        Some(span) => match text_at(alloc, ahead, span) {
+            Ok(text) => Ok(Some(text)),
+            Err(fault) => Err(fault),
+        },
+        None => Ok(None),
+    }
 }
 
 /// The bytes ahead that the span covers.
@@ -93,33 +170,6 @@ fn text_at(alloc: Global, ahead: &Ahead, span: Span) -> Result<Text, HeadFault>
     match Text::from_bytes(alloc, &ahead.bytes()[span.start..span.end]) {
         Ok(text) => Ok(text),
         Err(_) => Err(HeadFault::NoMemory),
-    }
-}
-
-/// A head of which nothing else is read.
-fn plain_head(kind: Kind, status: u16, modified: Text) -> Head
-    ensures { result ≡ record { kind = kind; status = status; strong = None; first = 0; last = None; total = None; ranges = false; disposition = None; modified = modified } }
-{
-    Head {
-        kind,
-        status,
-        strong: None,
-        first: 0,
-        last: None,
-        total: None,
-        ranges: false,
-        disposition: None,
-        modified,
-    }
-}
-
-/// The length that the framing tells.
-fn total_of(framing: Framing) -> Option<u64>
-    ensures { result ≡ told_total framing }
-{
-    match framing {
-        Framing::Counted(count) => Some(count),
-        Framing::Chunked | Framing::ToEnd => None,
     }
 }
 

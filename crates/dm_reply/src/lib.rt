@@ -10,14 +10,18 @@ mod found;
 mod got;
 mod head;
 mod laws;
+mod part;
 mod plain;
 mod reader;
 mod receiving;
 
+pub use dm_edge::Wanted;
 pub use got::Got;
 pub use head::{Head, HeadFault, Kind};
 pub use laws::one_outcome;
 pub use reader::ReplyReader;
 
+#[cfg(test)]
+mod part_tests;
 #[cfg(test)]
 mod tests;

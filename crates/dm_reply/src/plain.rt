@@ -1,13 +1,15 @@
 //! Content that stands in the stream as it is: by a count, or up to the connection's end.
 ghost use Rattle.std.specs.Prelude.{◌≡◌, ◌<◌, ◌≤◌, ℕ, List, [], length, min, IfOk, IfErr, MatchResult};
+ghost use Rattle.httparse.specs.Grammar.{ResponseHead};
 ghost use Rattle.dm_types.specs.Faults.{HasCause};
+ghost use Rattle.dm_edge.specs.declared.wanted.Wanted.{Wanted};
 ghost use Rattle.dm_edge.specs.Faults.{wire_kind};
 ghost use Rattle.dm_edge.specs.Reply.{most_content};
 ghost use Rattle.dm_reply.specs.Ahead.{Stays};
-ghost use Rattle.dm_reply.specs.Content.{HasRead, ContentSays};
+ghost use Rattle.dm_reply.specs.Content.{HasFramed};
 ghost use Rattle.dm_reply.specs.Faults.{cause_kind};
-ghost use Rattle.dm_reply.specs.Unfinished.{LeavesContent};
-ghost use Rattle.dm_reply.specs.Steps.{cause_of, Nexts, going, settled, KeepsTo, EndSays};
+ghost use Rattle.dm_reply.specs.Unfinished.{LeavesFramed};
+ghost use Rattle.dm_reply.specs.Steps.{cause_of, Nexts, going, settled, KeepsTo, FramedSays, EndSays};
 ghost use Rattle.dm_reply.specs.declared.body.Body.TheVariants as body;
 ghost use Rattle.dm_reply.specs.declared.got.Got.TheVariants as got;
 
@@ -22,31 +24,31 @@ pub const MOST_CONTENT: u64 = 1 << 40;
 /// The next bytes of a counted content. It receives at most what is lacking.
 pub fn give_counted<W: Wire>(
     ahead: &mut Ahead,
-    wanted: u64,
+    count: u64,
     given: u64,
     wire: &mut W,
     buf: &mut [u8],
 ) -> Result<Got, Cause>
     requires room { 0 < length buf.old }
-    requires within { (given ≤ wanted) × (wanted ≤ most_content) }
-    ensures keeps { KeepsTo wanted given (length buf.old) result }
-    ensures says { W.tells → (content : List ℕ) → HasRead (W.told wire.old).given (going ahead.old (body.Counted wanted) given) content
-        → ContentSays (W.told wire.new) (settled (going ahead.new (body.Counted wanted) given) result) result buf.new content }
-    ensures unfinished { W.tells → (content : List ℕ) → HasRead (W.told wire.old).given (going ahead.old (body.Counted wanted) given) content
-        → LeavesContent (W.told wire.new).given content result }
+    requires within { (given ≤ count) × (count ≤ most_content) }
+    ensures keeps { KeepsTo count given (length buf.old) result }
+    ensures says { W.tells → (wanted : Wanted) (head : ResponseHead) (content : List ℕ) → HasFramed wanted head (W.told wire.old).given (going ahead.old (body.Counted count) given) content
+        → FramedSays wanted head (W.told wire.new) (settled (going ahead.new (body.Counted count) given) result) result buf.new content }
+    ensures unfinished { W.tells → (wanted : Wanted) (head : ResponseHead) (content : List ℕ) → HasFramed wanted head (W.told wire.old).given (going ahead.old (body.Counted count) given) content
+        → LeavesFramed wanted head (W.told wire.new).given content result }
     ensures sent { W.tells → (W.told wire.new).sent ≡ (W.told wire.old).sent }
     ensures stays { (W.asked wire.new ≡ W.asked wire.old) × (W.origin wire.new ≡ W.origin wire.old) }
     ensures cause { HasCause cause_kind (W.faults wire.old) (W.faults wire.new) result }
 {
-    if given == wanted {
+    if given == count {
         return Ok(Got::End);
     }
-    match next(ahead, least(wanted - given, buf.len()), wire, buf) {
+    match next(ahead, least(count - given, buf.len()), wire, buf) {
         Ok(0) => Err(Cause::ContentShort {
             have: given,
-            wanted: Some(wanted),
+            wanted: Some(count),
         }),
-        Ok(count) => Ok(Got::Bytes(count)),
+        Ok(size) => Ok(Got::Bytes(size)),
         Err(fault) => Err(cause_of(fault)),
     }
 }
@@ -61,10 +63,10 @@ pub fn give_to_end<W: Wire>(
     requires room { 0 < length buf.old }
     requires within { given ≤ most_content }
     ensures keeps { KeepsTo most_content given (length buf.old) result }
-    ensures says { W.tells → (content : List ℕ) → HasRead (W.told wire.old).given (going ahead.old body.ToEnd given) content
-        → ContentSays (W.told wire.new) (settled (going ahead.new body.ToEnd given) result) result buf.new content }
-    ensures unfinished { W.tells → (content : List ℕ) → HasRead (W.told wire.old).given (going ahead.old body.ToEnd given) content
-        → LeavesContent (W.told wire.new).given content result }
+    ensures says { W.tells → (wanted : Wanted) (head : ResponseHead) (content : List ℕ) → HasFramed wanted head (W.told wire.old).given (going ahead.old body.ToEnd given) content
+        → FramedSays wanted head (W.told wire.new) (settled (going ahead.new body.ToEnd given) result) result buf.new content }
+    ensures unfinished { W.tells → (wanted : Wanted) (head : ResponseHead) (content : List ℕ) → HasFramed wanted head (W.told wire.old).given (going ahead.old body.ToEnd given) content
+        → LeavesFramed wanted head (W.told wire.new).given content result }
     ensures sent { W.tells → (W.told wire.new).sent ≡ (W.told wire.old).sent }
     ensures stays { (W.asked wire.new ≡ W.asked wire.old) × (W.origin wire.new ≡ W.origin wire.old) }
     ensures cause { HasCause cause_kind (W.faults wire.old) (W.faults wire.new) result }
@@ -82,10 +84,10 @@ pub fn give_to_end<W: Wire>(
 /// The end of a content that has as many bytes as one may have.
 fn end_full<W: Wire>(ahead: &mut Ahead, wire: &mut W) -> Result<Got, Cause>
     ensures no_bytes { IfOk result (λ answer. answer ≡ got.End) }
-    ensures says { W.tells → (content : List ℕ) → HasRead (W.told wire.old).given (going ahead.old body.ToEnd most_content) content
-        → EndSays (W.told wire.new) (going ahead.new body.ToEnd most_content) result content }
-    ensures unfinished { W.tells → (content : List ℕ) → HasRead (W.told wire.old).given (going ahead.old body.ToEnd most_content) content
-        → LeavesContent (W.told wire.new).given content result }
+    ensures says { W.tells → (wanted : Wanted) (head : ResponseHead) (content : List ℕ) → HasFramed wanted head (W.told wire.old).given (going ahead.old body.ToEnd most_content) content
+        → EndSays wanted head (W.told wire.new) (going ahead.new body.ToEnd most_content) result content }
+    ensures unfinished { W.tells → (wanted : Wanted) (head : ResponseHead) (content : List ℕ) → HasFramed wanted head (W.told wire.old).given (going ahead.old body.ToEnd most_content) content
+        → LeavesFramed wanted head (W.told wire.new).given content result }
     ensures sent { W.tells → (W.told wire.new).sent ≡ (W.told wire.old).sent }
     ensures stays { (W.asked wire.new ≡ W.asked wire.old) × (W.origin wire.new ≡ W.origin wire.old) }
     ensures cause { HasCause cause_kind (W.faults wire.old) (W.faults wire.new) result }

@@ -1,19 +1,22 @@
 ghost use Rattle.std.specs.Prelude.{◌≡◌, ◌<◌, ◌≤◌, ◌+◌, ℕ, List, [], length, take, drop, false, Some, None, IfOk, IfErr, IfSome, Result, Err};
 ghost use Rattle.dm_types.specs.Faults.{HasCause, NoneFell};
+ghost use Rattle.httparse.specs.Grammar.{ResponseHead};
+ghost use Rattle.dm_edge.specs.declared.wanted.Wanted.{Wanted as Asked};
 ghost use Rattle.dm_edge.specs.Wire.{stream_of};
 ghost use Rattle.dm_edge.specs.Reply.{most_content};
-ghost use Rattle.dm_reply.specs.Content.{Reading, unread, HasRead, HeadSays, HeadBreaks, IsPlainHead, ContentSays, Advances};
-ghost use Rattle.dm_reply.specs.Unfinished.{LeavesContent, LeavesHead};
-ghost use Rattle.dm_reply.specs.Steps.{settled, IsWithin, KeepsTo, most_of};
+ghost use Rattle.dm_reply.specs.Content.{unread, HasFramed, HasRead, HeadSays, HeadBreaks, IsPlainHead, ContentSays, Advances, extent_of, size_told};
+ghost use Rattle.dm_reply.specs.Unfinished.{LeavesContent, LeavesFramed, LeavesHead};
+ghost use Rattle.dm_reply.specs.Steps.{settled, settled_reader, least_of, FramedSays, IsSameReader, IsWithin, KeepsTo, most_of};
 ghost use Rattle.dm_reply.specs.Faults.{cause_kind, head_kind};
 
 use crate::ahead::Ahead;
 use crate::body::Body;
 use crate::chunked::give_chunked;
 use crate::found::Found;
-use crate::plain::{give_counted, give_to_end};
+use crate::part::{part_answer, size_of};
+use crate::plain::{give_counted, give_to_end, least};
 use crate::receiving::receive_head;
-use crate::{Got, Head, HeadFault};
+use crate::{Got, Head, HeadFault, Wanted};
 use dm_edge::Wire;
 use dm_policy::Cause;
 use dm_types::NoMemory;
@@ -24,32 +27,37 @@ use std::marker::Model;
 /// for every way in which the stream is cut into pieces.
 #[derive(Drop)]
 pub struct ReplyReader {
+    wanted: Wanted,
     ahead: Ahead,
     body: Body,
+    /// How many bytes the part has, where its head was read.
+    size: Option<u64>,
     given: u64,
     broke: Option<Cause>,
 }
 
 impl Model for ReplyReader {
-    ghost use Rattle.dm_reply.specs.Content.{Reading};
+    ghost use Rattle.dm_reply.specs.Content.{Reader};
 
-    ghost Value = { Reading };
+    ghost Value = { Reader };
 
-    ghost use Rattle.dm_reply.specs.Reader.{reading_of, IsReader};
+    ghost use Rattle.dm_reply.specs.Reader.{reader_of, IsReader};
 
-    ghost view = { reading_of };
+    ghost view = { reader_of };
 
     ghost invariant = { IsReader };
 }
 
 impl ReplyReader {
-    /// Takes the buffer for the head, 65,536 bytes.
-    pub fn new(alloc: Global) -> Result<ReplyReader, NoMemory>
-        ensures { IfOk result (λ reader. reader ≡ unread) }
+    /// A reader of the reply to a request for this. Takes the buffer for the head, 65,536 bytes.
+    pub fn new(alloc: Global, wanted: Wanted) -> Result<ReplyReader, NoMemory>
+        ensures { IfOk result (λ reader. reader ≡ unread wanted) }
     {
         Ok(ReplyReader {
+            wanted,
             ahead: Ahead::new(alloc)?,
             body: Body::ToEnd,
+            size: None,
             given: 0,
             broke: None,
         })
@@ -58,22 +66,24 @@ impl ReplyReader {
     /// Receives the head, behind at most eight interim ones. It is called once, on a wire that gave
     /// nothing yet.
     pub fn head<W: Wire>(&mut self, alloc: Global, wire: &mut W) -> Result<Head, HeadFault>
-        requires { self.old ≡ unread }
+        requires { self.old ≡ unread self.old.wanted }
         ensures says { W.tells → (W.told wire.old).given ≡ []
-            → IfOk result (HeadSays (W.told wire.new) self.new) }
-        ensures plain { IfOk result IsPlainHead }
-        ensures fresh { IfOk result (λ head. (self.new.given ≡ 0) × (self.new.broke ≡ None)) }
+            → IfOk result (HeadSays self.old.wanted (W.told wire.new) self.new) }
+        ensures plain { IfOk result (IsPlainHead self.old.wanted) }
+        ensures fresh { IfOk result (λ head. (self.new.reading.given ≡ 0) × (self.new.reading.broke ≡ None)) }
+        ensures size { IfOk result (λ head. self.new.size ≡ size_told (extent_of head)) }
         ensures broke { W.tells → (W.told wire.old).given ≡ []
-            → IfErr result (HeadBreaks (stream_of (W.told wire.new))) }
+            → IfErr result (HeadBreaks self.old.wanted (stream_of (W.told wire.new))) }
         ensures unfinished { W.tells → (W.told wire.old).given ≡ []
             → IfErr result (LeavesHead (W.told wire.new).given) }
         ensures sent { W.tells → (W.told wire.new).sent ≡ (W.told wire.old).sent }
         ensures stays { (W.asked wire.new ≡ W.asked wire.old) × (W.origin wire.new ≡ W.origin wire.old) }
         ensures cause { HasCause head_kind (W.faults wire.old) (W.faults wire.new) result }
     {
-        match receive_head(alloc, &mut self.ahead, wire) {
+        match receive_head(alloc, &self.wanted, &mut self.ahead, wire) {
             Ok(Found { head, body }) => {
                 self.body = body;
+                self.size = size_of(&head);
                 Ok(head)
             }
             Err(fault) => Err(fault),
@@ -85,17 +95,19 @@ impl ReplyReader {
     /// memory; `Memory` is answered only where the wire had none.
     pub fn content<W: Wire>(&mut self, wire: &mut W, buf: &mut [u8]) -> Result<Got, Cause>
         requires { 0 < length buf.old }
-        ensures says { W.tells → (content : List ℕ) → HasRead (W.told wire.old).given self.old content
-            → ContentSays (W.told wire.new) self.new result buf.new content }
-        ensures unfinished { W.tells → (content : List ℕ) → HasRead (W.told wire.old).given self.old content
-            → LeavesContent (W.told wire.new).given content result }
-        ensures advances { Advances self.old self.new result (length buf.old) }
-        ensures ends { IfErr result (λ cause. self.new.broke ≡ Some cause) }
-        ensures repeats { IfSome self.old.broke (λ cause. (result ≡ Err cause) × (self.new ≡ self.old) × (W.told wire.new ≡ W.told wire.old)) }
+        ensures says { W.tells → (wanted : Asked) (content : List ℕ) → HasRead wanted (W.told wire.old).given self.old content
+            → ContentSays wanted (W.told wire.new) self.new result buf.new content }
+        ensures unfinished { W.tells → (wanted : Asked) (content : List ℕ) → HasRead wanted (W.told wire.old).given self.old content
+            → LeavesContent wanted (W.told wire.new).given content result }
+        ensures advances { Advances self.old.reading self.new.reading result (length buf.old) }
+        ensures in_part { IfSome self.new.size (λ size. self.new.reading.given ≤ size) }
+        ensures kept { (self.new.wanted ≡ self.old.wanted) × (self.new.size ≡ self.old.size) }
+        ensures ends { IfErr result (λ cause. self.new.reading.broke ≡ Some cause) }
+        ensures repeats { IfSome self.old.reading.broke (λ cause. (result ≡ Err cause) × (self.new ≡ self.old) × (W.told wire.new ≡ W.told wire.old)) }
         ensures sent { W.tells → (W.told wire.new).sent ≡ (W.told wire.old).sent }
         ensures stays { (W.asked wire.new ≡ W.asked wire.old) × (W.origin wire.new ≡ W.origin wire.old) }
         ensures later { NoneFell (W.faults wire.old) (W.faults wire.new) }
-        ensures cause { self.old.broke ≡ None → HasCause cause_kind (W.faults wire.old) (W.faults wire.new) result }
+        ensures cause { self.old.reading.broke ≡ None → HasCause cause_kind (W.faults wire.old) (W.faults wire.new) result }
     {
         if let Some(cause) = self.broke {
             return Err(cause);
@@ -104,17 +116,66 @@ impl ReplyReader {
         self.settle(result)
     }
 
-    /// The next of the content, by its framing.
+    /// The next of the content, which for a part ends after its bytes.
     fn next<W: Wire>(&mut self, wire: &mut W, buf: &mut [u8]) -> Result<Got, Cause>
         requires room { 0 < length buf.old }
-        requires unbroken { self.old.broke ≡ None }
-        ensures keeps { KeepsTo (most_of self.old.body) self.old.given (length buf.old) result }
-        ensures limit { most_of self.old.body ≤ most_content }
-        ensures same { (self.new.given ≡ self.old.given) × (self.new.broke ≡ None) × (most_of self.new.body ≡ most_of self.old.body) }
-        ensures says { W.tells → (content : List ℕ) → HasRead (W.told wire.old).given self.old content
-            → ContentSays (W.told wire.new) (settled self.new result) result buf.new content }
-        ensures unfinished { W.tells → (content : List ℕ) → HasRead (W.told wire.old).given self.old content
-            → LeavesContent (W.told wire.new).given content result }
+        requires unbroken { self.old.reading.broke ≡ None }
+        ensures keeps { KeepsTo (least_of self.old.size (most_of self.old.reading.body)) self.old.reading.given (length buf.old) result }
+        ensures same { IsSameReader self.old self.new }
+        ensures says { W.tells → (wanted : Asked) (content : List ℕ) → HasRead wanted (W.told wire.old).given self.old content
+            → ContentSays wanted (W.told wire.new) (settled_reader self.new result) result buf.new content }
+        ensures unfinished { W.tells → (wanted : Asked) (content : List ℕ) → HasRead wanted (W.told wire.old).given self.old content
+            → LeavesContent wanted (W.told wire.new).given content result }
+        ensures sent { W.tells → (W.told wire.new).sent ≡ (W.told wire.old).sent }
+        ensures stays { (W.asked wire.new ≡ W.asked wire.old) × (W.origin wire.new ≡ W.origin wire.old) }
+        ensures cause { HasCause cause_kind (W.faults wire.old) (W.faults wire.new) result }
+    {
+        match self.size {
+            Some(size) => self.next_of_part(size, wire, buf),
+            None => self.framed(wire, buf),
+        }
+    }
+
+    /// The next of a part of this size, which ends after its bytes. It asks for no more than it lacks.
+    fn next_of_part<W: Wire>(
+        &mut self,
+        size: u64,
+        wire: &mut W,
+        buf: &mut [u8],
+    ) -> Result<Got, Cause>
+        requires room { 0 < length buf.old }
+        requires unbroken { self.old.reading.broke ≡ None }
+        requires size { self.old.size ≡ Some size }
+        ensures keeps { KeepsTo (least_of self.old.size (most_of self.old.reading.body)) self.old.reading.given (length buf.old) result }
+        ensures same { IsSameReader self.old self.new }
+        ensures says { W.tells → (wanted : Asked) (content : List ℕ) → HasRead wanted (W.told wire.old).given self.old content
+            → ContentSays wanted (W.told wire.new) (settled_reader self.new result) result buf.new content }
+        ensures unfinished { W.tells → (wanted : Asked) (content : List ℕ) → HasRead wanted (W.told wire.old).given self.old content
+            → LeavesContent wanted (W.told wire.new).given content result }
+        ensures sent { W.tells → (W.told wire.new).sent ≡ (W.told wire.old).sent }
+        ensures stays { (W.asked wire.new ≡ W.asked wire.old) × (W.origin wire.new ≡ W.origin wire.old) }
+        ensures cause { HasCause cause_kind (W.faults wire.old) (W.faults wire.new) result }
+    {
+        let given = self.given;
+        if given == size {
+            return Ok(Got::End);
+        }
+        let room = least(size - given, buf.len());
+        let answer = self.framed(wire, &mut buf[..room]);
+        part_answer(answer, given, size)
+    }
+
+    /// The next of what is framed.
+    fn framed<W: Wire>(&mut self, wire: &mut W, buf: &mut [u8]) -> Result<Got, Cause>
+        requires room { 0 < length buf.old }
+        requires unbroken { self.old.reading.broke ≡ None }
+        ensures keeps { KeepsTo (most_of self.old.reading.body) self.old.reading.given (length buf.old) result }
+        ensures limit { most_of self.old.reading.body ≤ most_content }
+        ensures same { IsSameReader self.old self.new }
+        ensures says { W.tells → (wanted : Asked) (head : ResponseHead) (content : List ℕ) → HasFramed wanted head (W.told wire.old).given self.old.reading content
+            → FramedSays wanted head (W.told wire.new) (settled self.new.reading result) result buf.new content }
+        ensures unfinished { W.tells → (wanted : Asked) (head : ResponseHead) (content : List ℕ) → HasFramed wanted head (W.told wire.old).given self.old.reading content
+            → LeavesFramed wanted head (W.told wire.new).given content result }
         ensures sent { W.tells → (W.told wire.new).sent ≡ (W.told wire.old).sent }
         ensures stays { (W.asked wire.new ≡ W.asked wire.old) × (W.origin wire.new ≡ W.origin wire.old) }
         ensures cause { HasCause cause_kind (W.faults wire.old) (W.faults wire.new) result }
@@ -132,9 +193,9 @@ impl ReplyReader {
 
     /// Counts what is given, and keeps a cause.
     fn settle(&mut self, answer: Result<Got, Cause>) -> Result<Got, Cause>
-        requires { IsWithin (most_of self.old.body) self.old.given answer }
+        requires { IsWithin (least_of self.old.size (most_of self.old.reading.body)) self.old.reading.given answer }
         ensures same { result ≡ answer }
-        ensures after { self.new ≡ settled self.old answer }
+        ensures after { self.new ≡ settled_reader self.old answer }
     {
         match answer {
             Ok(Got::Bytes(count)) => self.given += count as u64,

@@ -7,14 +7,16 @@ ghost use Rattle.dm_edge.specs.Reply.{most_content};
 ghost use Rattle.dm_head.specs.Look.{IsOpen};
 ghost use Rattle.dm_reply.specs.Content.{HeadSays, HeadBreaks, IsPlainHead};
 ghost use Rattle.dm_reply.specs.Faults.{head_kind};
-ghost use Rattle.dm_reply.specs.Found.{MoreSays};
+ghost use Rattle.dm_edge.specs.declared.wanted.Wanted.{Wanted as Asked};
+ghost use Rattle.dm_reply.specs.Found.{MoreSays, started};
 ghost use Rattle.dm_reply.specs.Unfinished.{LeavesHead};
-ghost use Rattle.dm_reply.specs.Steps.{going, most_of, head_fault_of};
+ghost use Rattle.dm_reply.specs.Steps.{most_of, head_fault_of};
 
 use crate::HeadFault;
 use crate::ahead::{Ahead, MOST_HEAD};
 use crate::found::{Found, content_head, redirect_head};
-use dm_edge::{Wire, WireFault};
+use crate::part::content_status;
+use dm_edge::{Wanted, Wire, WireFault};
 use dm_head::{Look, look_at};
 use dm_policy::Cause;
 use std::alloc::Global;
@@ -26,15 +28,16 @@ const MOST_INTERIM: u32 = 8;
 /// at most 65,536, or passes one over.
 pub fn receive_head<W: Wire>(
     alloc: Global,
+    wanted: &Wanted,
     ahead: &mut Ahead,
     wire: &mut W,
 ) -> Result<Found, HeadFault>
     requires { ahead.old ≡ [] }
     ensures says { W.tells → (W.told wire.old).given ≡ []
-        → IfOk result (λ found. HeadSays (W.told wire.new) (going ahead.new found.body 0) found.head) }
-    ensures plain { IfOk result (λ found. IsPlainHead found.head) }
+        → IfOk result (λ found. HeadSays wanted.now (W.told wire.new) (started wanted.now ahead.new found) found.head) }
+    ensures plain { IfOk result (λ found. IsPlainHead wanted.now found.head) }
     ensures limit { IfOk result (λ found. most_of found.body ≤ most_content) }
-    ensures broke { W.tells → (W.told wire.old).given ≡ [] → IfErr result (HeadBreaks (stream_of (W.told wire.new))) }
+    ensures broke { W.tells → (W.told wire.old).given ≡ [] → IfErr result (HeadBreaks wanted.now (stream_of (W.told wire.new))) }
     ensures unfinished { W.tells → (W.told wire.old).given ≡ [] → IfErr result (LeavesHead (W.told wire.new).given) }
     ensures sent { W.tells → (W.told wire.new).sent ≡ (W.told wire.old).sent }
     ensures stays { (W.asked wire.new ≡ W.asked wire.old) × (W.origin wire.new ≡ W.origin wire.old) }
@@ -42,7 +45,7 @@ pub fn receive_head<W: Wire>(
 {
     let mut passed = 0;
     loop {
-        match look_at(ahead.bytes()) {
+        match look_at(ahead.bytes(), wanted) {
             Look::Interim { size, status } => {
                 if passed == MOST_INTERIM {
                     return Err(HeadFault::Broke(Cause::Status(status)));
@@ -53,13 +56,17 @@ pub fn receive_head<W: Wire>(
             Look::Content {
                 start,
                 framing,
-                modified,
-            } => return content_head(alloc, ahead, start, framing, modified),
+                extent,
+                metadata,
+            } => {
+                let status = content_status(wanted);
+                return content_head(alloc, ahead, status, start, framing, extent, metadata);
+            }
             Look::Redirect {
                 status,
                 location,
-                modified,
-            } => return redirect_head(alloc, ahead, status, location, modified),
+                metadata,
+            } => return redirect_head(alloc, ahead, status, location, metadata),
             Look::Refused(cause) => return Err(HeadFault::Broke(cause)),
             Look::Open => match receive_more(ahead, wire) {
                 Ok(()) => {}
@@ -73,7 +80,7 @@ pub fn receive_head<W: Wire>(
 fn receive_more<W: Wire>(ahead: &mut Ahead, wire: &mut W) -> Result<(), HeadFault>
     requires { IsOpen ahead.old }
     ensures grows { IfOk result (λ _. (length ahead.old < length ahead.new) × (length ahead.new ≤ most_head)) }
-    ensures says { W.tells → MoreSays (W.told wire.old) (W.told wire.new) ahead.old ahead.new result }
+    ensures says { W.tells → (wanted : Asked) → MoreSays wanted (W.told wire.old) (W.told wire.new) ahead.old ahead.new result }
     ensures sent { W.tells → (W.told wire.new).sent ≡ (W.told wire.old).sent }
     ensures stays { (W.asked wire.new ≡ W.asked wire.old) × (W.origin wire.new ≡ W.origin wire.old) }
     ensures cause { HasCause head_kind (W.faults wire.old) (W.faults wire.new) result }

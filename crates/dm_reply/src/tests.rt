@@ -1,7 +1,7 @@
 ghost use Rattle.dm_edge.specs.Counts.{wire_count};
 
 use crate::collecting::collected;
-use crate::{HeadFault, Kind, ReplyReader};
+use crate::{HeadFault, Kind, ReplyReader, Wanted};
 use dm_edge::{EveryByte, Wire, WireCounts, WireFault};
 use dm_policy::Cause;
 use std::alloc::Global;
@@ -9,7 +9,7 @@ use std::test::Fail;
 
 /// A wire that gives its bytes in pieces of a size at most, and then ends, or fails.
 #[derive(Drop)]
-struct Pieces<'a> {
+pub struct Pieces<'a> {
     left: &'a [u8],
     size: usize,
     last: Option<WireFault>,
@@ -52,7 +52,7 @@ impl Wire for Pieces<'_> {
     }
 }
 
-fn wire_of(left: &[u8], size: usize, last: Option<WireFault>) -> Pieces<'_> {
+pub fn wire_of(left: &[u8], size: usize, last: Option<WireFault>) -> Pieces<'_> {
     Pieces {
         left,
         size,
@@ -63,7 +63,7 @@ fn wire_of(left: &[u8], size: usize, last: Option<WireFault>) -> Pieces<'_> {
 
 /// The whole content is this.
 fn gives(alloc: Global, stream: &[u8], size: usize, content: &[u8]) -> bool {
-    match collected(alloc, &mut wire_of(stream, size, None)) {
+    match collected(alloc, &mut wire_of(stream, size, None), Wanted::Whole) {
         Ok(found) => found.as_slice() == content,
         Err(_) => false,
     }
@@ -71,7 +71,7 @@ fn gives(alloc: Global, stream: &[u8], size: usize, content: &[u8]) -> bool {
 
 /// The cause that ends the reading is this.
 fn breaks(alloc: Global, stream: &[u8], size: usize, cause: Cause) -> bool {
-    match collected(alloc, &mut wire_of(stream, size, None)) {
+    match collected(alloc, &mut wire_of(stream, size, None), Wanted::Whole) {
         Ok(_) => false,
         Err(fault) => fault == HeadFault::Broke(cause),
     }
@@ -290,7 +290,7 @@ fn a_head_has_65536_bytes(rt: HostRuntime) -> Result<(), Fail> {
 
 /// The answer where the wire fails behind these bytes.
 fn failing(alloc: Global, stream: &[u8], fault: WireFault) -> Option<HeadFault> {
-    collected(alloc, &mut wire_of(stream, 3, Some(fault))).err()
+    collected(alloc, &mut wire_of(stream, 3, Some(fault)), Wanted::Whole).err()
 }
 
 #[test]
@@ -314,7 +314,7 @@ fn want_of_memory_is_no_cause_of_a_head(rt: HostRuntime) {
 /// Whether a cause is answered again.
 fn repeats(alloc: Global, stream: &[u8], cause: Cause) -> bool {
     let mut wire = wire_of(stream, 100, Some(WireFault::Failed));
-    let mut reader = match ReplyReader::new(alloc) {
+    let mut reader = match ReplyReader::new(alloc, Wanted::Whole) {
         Ok(reader) => reader,
         Err(_) => return false,
     };
@@ -339,7 +339,7 @@ const MOVED: &[u8] =
 /// Whether the head is a redirect to this address, as it stands, with this date.
 fn leads(alloc: Global, stream: &[u8], location: &[u8], modified: &[u8]) -> bool {
     let mut wire = wire_of(stream, 5, None);
-    let mut reader = match ReplyReader::new(alloc) {
+    let mut reader = match ReplyReader::new(alloc, Wanted::Whole) {
         Ok(reader) => reader,
         Err(_) => return false,
     };

@@ -4,6 +4,7 @@ use Rattle.dm_disk_model.specs.Disk.{now, Stands}
 use Rattle.dm_disk_model.specs.Names.{KeepsOthers}
 use Rattle.dm_edge.specs.Reply.{most_content}
 use Rattle.dm_reply.specs.Content.{HasRead}
+use Rattle.dm_edge.specs.declared.wanted.Wanted.TheVariants as asks
 use Rattle.dm_cli.specs.Copying.{CopiedSoFar}
 use Rattle.dm_cli.proofs.copying.copy_content.Given as goal
 
@@ -13,11 +14,11 @@ invariant-loop-count g l =
     let W = g.W.Wire in
     record {
       room : 0 < length l.buffer;
-      at : l.at ≡ l.reader.given;
-      within : l.reader.given ≤ most_content;
-      unbroken : l.reader.broke ≡ None;
+      at : l.at ≡ l.reader.reading.given;
+      within : l.reader.reading.given ≤ most_content;
+      unbroken : l.reader.reading.broke ≡ None;
       stands : D.tells → Stands (now (D.history l.disk)) l.part;
-      copied : D.tells → W.tells → HasRead (W.told l.initial.wire).given l.initial.reader [] → CopiedSoFar (W.told l.wire) l.reader (now (D.history l.disk)) l.part l.at;
+      copied : D.tells → W.tells → HasRead asks.Whole (W.told l.initial.wire).given l.initial.reader [] → CopiedSoFar (W.told l.wire) l.reader (now (D.history l.disk)) l.part l.at;
       keeps : D.tells → KeepsOthers l.part (D.history l.initial.disk) (D.history l.disk);
       sent : W.tells → (W.told l.wire).sent ≡ (W.told l.initial.wire).sent;
       stays : W.asked l.wire ≡ W.asked l.initial.wire;
@@ -26,4 +27,4 @@ invariant-loop-count g l =
     }
 
 abbrev pub decreases-loop-count : goal.decreases-loop-count
-decreases-loop-count g l = most_content - l.reader.given
+decreases-loop-count g l = most_content - l.reader.reading.given

@@ -1,5 +1,6 @@
 use Rattle.std.proofs.Common.{ℕ, List, ◌++◌, take, inl, inr, ◌∙◌, ap}
 use Rattle.dm_cli.proofs.Following.{send_cuts}
+use Rattle.dm_cli.proofs.Heads.{kind_found}
 use Rattle.dm_cli.proofs.follow.talk.Goals as goal
 
 pub returns-in-Err-clause-sent : goal.returns-in-Err-clause-sent
@@ -14,3 +15,8 @@ returns-in-Err-clause-sent g c tells fresh =
 pub returns-in-Err-head-clause-sent : goal.returns-in-Err-head-clause-sent
 returns-in-Err-head-clause-sent g c tells fresh =
     inl (c.head.ensures.sent tells ∙ (c.in-Ok.ensures.sent tells).sent ∙ ap (λ (s : List ℕ). s ++ c.args.request.now) fresh.sent)
+
+pub returns-in-Ok-head-clause-kind : goal.returns-in-Ok-head-clause-kind
+returns-in-Ok-head-clause-kind g c tells fresh =
+    kind_found (g.W.Wire.told c.head.new.wire) c.args.reader.now c.head.new.self c.in-Ok-head.head c.requires.unread
+    (c.in-Ok-head.ensures.says tells ((c.in-Ok.ensures.sent tells).given ∙ fresh.given))

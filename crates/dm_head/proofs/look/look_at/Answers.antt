@@ -32,4 +32,4 @@ returns-in-Ok-Partial-2 c =
 
 pub returns-in-Err : goal.returns-in-Err
 returns-in-Err c =
-    refused_bad c.args.front.now c.requires c.in-Err.field-0 c.in-Err.ensures.invalid (λ is. c.in-Err.ensures.too_many (ap Err is))
+    refused_bad c.args.wanted.now c.args.front.now c.requires c.in-Err.field-0 c.in-Err.ensures.invalid (λ is. c.in-Err.ensures.too_many (ap Err is))

@@ -5,7 +5,7 @@ use Rattle.dm_reply.proofs.collecting.collected.Given as goal
 
 abbrev pub invariant-loop-content : goal.invariant-loop-content
 invariant-loop-content g l =
-    g.W.Wire.tells → (g.W.Wire.told l.fn.wire).given ≡ [] → HasRead (g.W.Wire.told l.wire).given l.reader l.content.items
+    g.W.Wire.tells → (g.W.Wire.told l.fn.wire).given ≡ [] → HasRead l.fn.wanted (g.W.Wire.told l.wire).given l.reader l.content.items
 
 abbrev pub decreases-loop-content : goal.decreases-loop-content
-decreases-loop-content g l = most_content - l.reader.given
+decreases-loop-content g l = most_content - l.reader.reading.given

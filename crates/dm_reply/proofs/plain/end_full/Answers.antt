@@ -1,21 +1,21 @@
 use Rattle.std.proofs.Common.{arith, refl, subst, sym}
 use Rattle.dm_policy.specs.declared.cause.Cause.{Cause}
 use Rattle.dm_edge.specs.Wire.{stream_of}
-use Rattle.dm_edge.specs.Reply.{ContentBroke, most_content}
+use Rattle.dm_edge.specs.Reply.{FramedBroke, most_content}
 use Rattle.dm_reply.proofs.PlainLemmas.{stopped, to_end_front, to_end_full, to_end_grown}
 use Rattle.dm_reply.proofs.plain.end_full.Goals as goal
 
 pub returns-then-not-is_empty-clause-says : goal.returns-then-not-is_empty-clause-says
-returns-then-not-is_empty-clause-says g c tells content has =
-    (to_end_full (g.W.Wire.told c.args.wire.now) most_content c.args.ahead.now content has refl (c.is_empty.ensures.some c.if-not-is_empty.true), refl)
+returns-then-not-is_empty-clause-says g c tells asked head content has =
+    (to_end_full asked head (g.W.Wire.told c.args.wire.now) most_content c.args.ahead.now content has refl (c.is_empty.ensures.some c.if-not-is_empty.true), refl)
 
 pub returns-in-Ok-clause-says : goal.returns-in-Ok-clause-says
-returns-in-Ok-clause-says g c tells content has =
-    let read = to_end_grown (g.W.Wire.told c.args.wire.now) (g.W.Wire.told c.receive.new.wire) most_content _ c.args.ahead.now c.receive.new.self content has (c.in-Ok.ensures.told tells) in
-    (to_end_full (g.W.Wire.told c.receive.new.wire) most_content c.receive.new.self content read refl (omega (arith, c.in-Ok.ensures.count)), refl)
+returns-in-Ok-clause-says g c tells asked head content has =
+    let read = to_end_grown asked head (g.W.Wire.told c.args.wire.now) (g.W.Wire.told c.receive.new.wire) most_content _ c.args.ahead.now c.receive.new.self content has (c.in-Ok.ensures.told tells) in
+    (to_end_full asked head (g.W.Wire.told c.receive.new.wire) most_content c.receive.new.self content read refl (omega (arith, c.in-Ok.ensures.count)), refl)
 
 pub returns-in-Err-clause-says : goal.returns-in-Err-clause-says
-returns-in-Err-clause-says g c tells content has =
-    let front = to_end_front (g.W.Wire.told c.args.wire.now) (g.W.Wire.told c.receive.new.wire) most_content c.args.ahead.now content has
+returns-in-Err-clause-says g c tells asked head content has =
+    let front = to_end_front asked head (g.W.Wire.told c.args.wire.now) (g.W.Wire.told c.receive.new.wire) most_content c.args.ahead.now content has
     (c.in-Err.ensures.told tells) in
-    subst (λ (cause : Cause). ContentBroke (stream_of (g.W.Wire.told c.receive.new.wire)) content cause) (sym c.cause_of.ensures) (stopped front c.in-Err.fault)
+    subst (λ (cause : Cause). FramedBroke asked head (stream_of (g.W.Wire.told c.receive.new.wire)) content cause) (sym c.cause_of.ensures) (stopped front c.in-Err.fault)

@@ -1,13 +1,13 @@
-use Rattle.std.proofs.Common.{◌+◌, [], List, ◌++◌, ℕ, sym, subst, ◌∙◌, arith}
+use Rattle.std.proofs.Common.{◌+◌, [], List, ◌++◌, ℕ, sym, subst, ◌∙◌, arith, IfOk}
 use Rattle.dm_edge.specs.Reply.{FrontBroke}
-use Rattle.dm_head.specs.Look.{FindsInterim, FindsContent, FindsRedirect}
-use Rattle.dm_reply.specs.Found.{HasPassed}
-use Rattle.dm_reply.proofs.HeadLemmas.{one_passed, more_passed, ninth_broke, refused_broke, more_broke, content_answer, redirect_answer, refused_cause, front_leaves}
+use Rattle.dm_head.specs.Look.{FindsInterim, FindsContent, FindsRedirect, IsOpen}
+use Rattle.dm_reply.specs.Found.{HasPassed, IsContentHead}
+use Rattle.dm_reply.proofs.HeadLemmas.{one_passed, more_passed, ninth_broke, refused_broke, more_broke, content_answer, redirect_answer, refused_cause, front_leaves, metadata_within, metadata_short, content_plain, redirect_plain, open_leaves}
 use Rattle.dm_reply.proofs.receiving.receive_head.Goals as goal
 
 pub returns-then-passed-eq-MOST_INTERIM-clause-broke : goal.returns-then-passed-eq-MOST_INTERIM-clause-broke
 returns-then-passed-eq-MOST_INTERIM-clause-broke g c tells fresh =
-    ninth_broke (g.W.Wire.told c.loop-size.wire) c.loop-size.ahead c.loop-size.passed c.in-Interim.size c.in-Interim.status
+    ninth_broke c.args.wanted.now (g.W.Wire.told c.loop-size.wire) c.loop-size.ahead c.loop-size.passed c.in-Interim.size c.in-Interim.status
     (c.loop-size.invariant.held tells fresh) c.if-passed-eq-MOST_INTERIM.true
     (subst (λ (t : List ℕ). FindsInterim t c.in-Interim.size c.in-Interim.status) c.bytes.ensures.same c.in-Interim.ensures)
 
@@ -25,27 +25,51 @@ loop-size-preserved-in-Interim g c =
       later = before.later;
     }
 
+pub content_head-requires : goal.content_head-requires
+content_head-requires g c =
+    let finds = subst (λ (t : List ℕ). FindsContent c.args.wanted.now t c.in-Content.start c.in-Content.framing c.in-Content.extent c.in-Content.metadata) c.bytes.ensures.same c.in-Content.ensures in
+    record { within = (finds.within, metadata_within finds.metadata_is); limit = finds.limit; short = metadata_short finds.metadata_is }
+
+pub redirect_head-requires : goal.redirect_head-requires
+redirect_head-requires g c =
+    let finds = subst (λ (t : List ℕ). FindsRedirect c.args.wanted.now t c.in-Redirect.status c.in-Redirect.location c.in-Redirect.metadata) c.bytes.ensures.same c.in-Redirect.ensures in
+    record { within = (finds.within, metadata_within finds.metadata_is); short = metadata_short finds.metadata_is }
+
 pub returns-in-Content-clause-says : goal.returns-in-Content-clause-says
 returns-in-Content-clause-says g c tells fresh =
-    let finds = subst (λ (t : List ℕ). FindsContent t c.in-Content.start c.in-Content.framing c.in-Content.modified) c.bytes.ensures.same c.in-Content.ensures in
-    content_answer (g.W.Wire.told c.loop-size.wire) c.loop-size.ahead c.content_head.new.ahead c.loop-size.passed c.in-Content.start c.in-Content.framing
-    c.in-Content.modified c.content_head.result (c.loop-size.invariant.held tells fresh) c.loop-size.invariant.few finds c.content_head.ensures.found c.content_head.ensures.after
+    let finds = subst (λ (t : List ℕ). FindsContent c.args.wanted.now t c.in-Content.start c.in-Content.framing c.in-Content.extent c.in-Content.metadata) c.bytes.ensures.same c.in-Content.ensures in
+    content_answer c.args.wanted.now (g.W.Wire.told c.loop-size.wire) c.loop-size.ahead c.content_head.new.ahead c.loop-size.passed c.in-Content.start c.in-Content.framing
+    c.in-Content.extent c.in-Content.metadata c.content_head.result (c.loop-size.invariant.held tells fresh) c.loop-size.invariant.few finds
+    (subst (λ (status : ℕ). IfOk c.content_head.result (IsContentHead status c.in-Content.framing c.in-Content.extent c.loop-size.ahead c.in-Content.metadata))
+    c.content_status-status.ensures c.content_head.ensures.found) c.content_head.ensures.after
+
+pub returns-in-Content-clause-plain : goal.returns-in-Content-clause-plain
+returns-in-Content-clause-plain g c =
+    let finds = subst (λ (t : List ℕ). FindsContent c.args.wanted.now t c.in-Content.start c.in-Content.framing c.in-Content.extent c.in-Content.metadata)
+    c.bytes.ensures.same c.in-Content.ensures in
+    content_plain c.args.wanted.now c.loop-size.ahead c.content_status-status.result c.in-Content.start c.in-Content.framing c.in-Content.extent
+    c.in-Content.metadata c.content_head.result finds c.content_head.ensures.found c.content_head.ensures.short
+
+pub returns-in-Redirect-clause-plain : goal.returns-in-Redirect-clause-plain
+returns-in-Redirect-clause-plain g c =
+    redirect_plain c.args.wanted.now c.in-Redirect.status _ c.loop-size.ahead c.in-Redirect.metadata c.redirect_head.result
+    c.redirect_head.ensures.found c.redirect_head.ensures.short
 
 pub returns-in-Redirect-clause-says : goal.returns-in-Redirect-clause-says
 returns-in-Redirect-clause-says g c tells fresh =
-    let finds = subst (λ (t : List ℕ). FindsRedirect t c.in-Redirect.status c.in-Redirect.location c.in-Redirect.modified) c.bytes.ensures.same c.in-Redirect.ensures in
-    redirect_answer (g.W.Wire.told c.loop-size.wire) c.loop-size.ahead c.loop-size.passed c.in-Redirect.status c.in-Redirect.location c.in-Redirect.modified
+    let finds = subst (λ (t : List ℕ). FindsRedirect c.args.wanted.now t c.in-Redirect.status c.in-Redirect.location c.in-Redirect.metadata) c.bytes.ensures.same c.in-Redirect.ensures in
+    redirect_answer c.args.wanted.now (g.W.Wire.told c.loop-size.wire) c.loop-size.ahead c.loop-size.passed c.in-Redirect.status c.in-Redirect.location c.in-Redirect.metadata
     c.redirect_head.result (c.loop-size.invariant.held tells fresh) c.loop-size.invariant.few finds c.redirect_head.ensures.found
 
 pub returns-in-Refused-clause-broke : goal.returns-in-Refused-clause-broke
 returns-in-Refused-clause-broke g c tells fresh =
-    refused_broke (g.W.Wire.told c.loop-size.wire) c.loop-size.ahead c.loop-size.passed c.in-Refused.cause (c.loop-size.invariant.held tells fresh)
+    refused_broke c.args.wanted.now (g.W.Wire.told c.loop-size.wire) c.loop-size.ahead c.loop-size.passed c.in-Refused.cause (c.loop-size.invariant.held tells fresh)
     c.loop-size.invariant.few
-    (subst (λ (t : List ℕ). (more : List ℕ) → FrontBroke (t ++ more) c.in-Refused.cause) c.bytes.ensures.same c.in-Refused.ensures)
+    (subst (λ (t : List ℕ). (more : List ℕ) → FrontBroke c.args.wanted.now (t ++ more) c.in-Refused.cause) c.bytes.ensures.same c.in-Refused.ensures)
 
 pub returns-in-Refused-clause-cause : goal.returns-in-Refused-clause-cause
 returns-in-Refused-clause-cause g c =
-    refused_cause (c.bytes.result.now ++ []) c.in-Refused.cause _ _ (c.in-Refused.ensures []) c.loop-size.invariant.later
+    refused_cause c.args.wanted.now (c.bytes.result.now ++ []) c.in-Refused.cause _ _ (c.in-Refused.ensures []) c.loop-size.invariant.later
 
 pub loop-size-preserved : goal.loop-size-preserved
 loop-size-preserved g c =
@@ -54,7 +78,7 @@ loop-size-preserved g c =
       few = before.few;
       held = λ tells fresh.
           more_passed (g.W.Wire.told c.loop-size.wire) (g.W.Wire.told c.receive_more.new.wire) c.loop-size.ahead c.receive_more.new.ahead c.loop-size.passed
-          (before.held tells fresh) (c.in-Ok.ensures.says tells);
+          (before.held tells fresh) (c.in-Ok.ensures.says tells c.args.wanted.now);
       sent = λ tells. c.in-Ok.ensures.sent tells ∙ before.sent tells;
       stays = (c.in-Ok.ensures.stays.0 ∙ before.stays.0, c.in-Ok.ensures.stays.1 ∙ before.stays.1);
       later = λ kind. omega (arith, before.later kind, c.in-Ok.ensures.cause.later kind);
@@ -62,9 +86,15 @@ loop-size-preserved g c =
 
 pub returns-in-Err-clause-broke : goal.returns-in-Err-clause-broke
 returns-in-Err-clause-broke g c tells fresh =
-    more_broke (g.W.Wire.told c.loop-size.wire) (g.W.Wire.told c.receive_more.new.wire) c.loop-size.ahead c.receive_more.new.ahead c.loop-size.passed
-    c.in-Err.fault (c.loop-size.invariant.held tells fresh) c.loop-size.invariant.few (c.in-Err.ensures.says tells)
+    more_broke c.args.wanted.now (g.W.Wire.told c.loop-size.wire) (g.W.Wire.told c.receive_more.new.wire) c.loop-size.ahead c.receive_more.new.ahead c.loop-size.passed
+    c.in-Err.fault (c.loop-size.invariant.held tells fresh) c.loop-size.invariant.few (c.in-Err.ensures.says tells c.args.wanted.now)
 
 pub returns-in-Refused-clause-unfinished : goal.returns-in-Refused-clause-unfinished
 returns-in-Refused-clause-unfinished g c tells fresh wire =
-    front_leaves (g.W.Wire.told c.loop-size.wire).given (c.bytes.result.now ++ []) c.in-Refused.cause (c.in-Refused.ensures []) wire
+    front_leaves c.args.wanted.now (g.W.Wire.told c.loop-size.wire).given (c.bytes.result.now ++ []) c.in-Refused.cause (c.in-Refused.ensures []) wire
+
+pub returns-in-Err-clause-unfinished : goal.returns-in-Err-clause-unfinished
+returns-in-Err-clause-unfinished g c tells fresh =
+    open_leaves (g.W.Wire.told c.loop-size.wire) (g.W.Wire.told c.receive_more.new.wire) c.loop-size.ahead c.receive_more.new.ahead c.loop-size.passed
+    c.in-Err.fault (c.loop-size.invariant.held tells fresh) c.loop-size.invariant.few (subst IsOpen c.bytes.ensures.same c.in-Open.ensures)
+    (c.in-Err.ensures.says tells)
