@@ -1,3 +1,6 @@
+ghost use Rattle.std.specs.Prelude.{◌≡◌};
+ghost use Rattle.dm_types.specs.Kind.{kind_of};
+
 use crate::{Attempt, By, Epoch, Item, ItemId, Key, Reason, Slices, Text};
 
 /// What the journal records. Moments are milliseconds since 1970.
@@ -81,4 +84,29 @@ pub enum Entry {
     Asked {
         id: ItemId,
     },
+}
+
+impl Entry {
+    /// The number of its kind, which its bytes in the journal begin with.
+    pub fn kind(&self) -> u8
+        ensures { result ≡ kind_of self.now }
+    {
+        match self {
+            Entry::Added { .. } => 1,
+            Entry::Began { .. } => 2,
+            Entry::Described { .. } => 3,
+            Entry::Progress { .. } => 4,
+            Entry::Broke { .. } => 5,
+            Entry::Paused { .. } => 6,
+            Entry::Cancelled { .. } => 7,
+            Entry::Restarted { .. } => 8,
+            Entry::Finishing { .. } => 9,
+            Entry::Done { .. } => 10,
+            Entry::Removed { .. } => 11,
+            Entry::Archived { .. } => 12,
+            Entry::Reopened { .. } => 13,
+            Entry::Restored { .. } => 14,
+            Entry::Asked { .. } => 15,
+        }
+    }
 }

@@ -1,4 +1,7 @@
-use crate::{Reason, Slices, Text};
+ghost use Rattle.std.specs.Prelude.{◌≡◌, IfOk, IsTrue, ◌↔◌};
+
+use crate::{NoMemory, Reason, Slices, Text};
+use std::alloc::Global;
 
 /// The number of an item. The first is 1.
 #[derive(Clone, Copy, Debug, PartialEq, Eq, PartialOrd, Ord)]
@@ -32,6 +35,32 @@ pub enum Key {
     Strong(Text),
     /// A reply without one stands for this attempt alone.
     Once(ItemId, Attempt),
+}
+
+impl Key {
+    /// Another value of the same key.
+    pub fn copy(&self, alloc: Global) -> Result<Key, NoMemory>
+        ensures { IfOk result (λ key. key ≡ self.now) }
+    {
+        match self {
+            Key::Strong(tag) => match tag.copy(alloc) {
+                Ok(tag) => Ok(Key::Strong(tag)),
+                Err(NoMemory) => Err(NoMemory),
+            },
+            Key::Once(id, attempt) => Ok(Key::Once(*id, *attempt)),
+        }
+    }
+
+    /// Whether two keys are equal: the bytes of both tags, or both the item and the attempt.
+    pub fn same(&self, other: &Key) -> bool
+        ensures { IsTrue result ↔ (self.now ≡ other.now) }
+    {
+        match (self, other) {
+            (Key::Strong(tag), Key::Strong(told)) => tag.same(told),
+            (Key::Once(id, attempt), Key::Once(of, later)) => *id == *of && *attempt == *later,
+            (Key::Strong(_), Key::Once(..)) | (Key::Once(..), Key::Strong(_)) => false,
+        }
+    }
 }
 
 /// One address that is being brought into one file.
@@ -82,3 +111,12 @@ pub struct Limits {
     /// The journal's length in bytes at which it is compacted.
     pub journal: u64,
 }
+
+/// The greatest number of each limit, with which the program runs.
+pub const LIMITS: Limits = Limits {
+    items: 4096,
+    checkpoint: 1_048_576,
+    piece: 65_536,
+    min_slice: 1_048_576,
+    journal: 16_777_216,
+};

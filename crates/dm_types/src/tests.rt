@@ -29,3 +29,21 @@ fn a_list_keeps_its_order(rt: HostRuntime) -> Result<(), Fail> {
     assert_eq!(rt; slices.count(), 1);
     Ok(())
 }
+
+#[test]
+fn keys_are_equal_by_what_they_hold(rt: HostRuntime) -> Result<(), Fail> {
+    let tag = Key::Strong(Text::from_bytes(rt.alloc(), b"\"a\"")?);
+    let copy = tag.copy(rt.alloc())?;
+    assert!(rt; tag.same(&copy));
+    assert!(rt; !tag.same(&Key::Once(ItemId(1), Attempt(1))));
+    assert!(rt; !Key::Once(ItemId(1), Attempt(1)).same(&Key::Once(ItemId(1), Attempt(2))));
+    Ok(())
+}
+
+#[test]
+fn a_part_is_named_by_item_and_epoch(rt: HostRuntime) -> Result<(), Fail> {
+    let name = part_name(rt.alloc(), ItemId(12), Epoch(3))?;
+    assert!(rt; name.is(b"Unconfirmed 12-3.crdownload"));
+    assert!(rt; same_folded(name.bytes(), b"UNCONFIRMED 12-3.CRDOWNLOAD"));
+    Ok(())
+}

@@ -76,6 +76,13 @@ impl Text {
         Ok(())
     }
 
+    /// Whether two texts have the same bytes.
+    pub fn same(&self, other: &Text) -> bool
+        ensures { IsTrue result ↔ (self.now ≡ other.now) }
+    {
+        self.bytes() == other.bytes()
+    }
+
     /// Whether these are the same bytes.
     pub fn is(&self, bytes: &[u8]) -> bool
         ensures { IsTrue result ↔ (self.now ≡ bytes.now) }
