@@ -8,7 +8,7 @@ use Rattle.dm_policy.specs.declared.cause.Cause.{Cause}
 use Rattle.dm_edge.specs.declared.fault.WireFault.{WireFault}
 use Rattle.dm_edge.specs.declared.fault.NetFault.{NetFault}
 use Rattle.dm_edge.specs.Faults.{net_count_of}
-use Rattle.dm_edge.specs.Wire.{Asked, Told, Closed, closed_of, stream_of}
+use Rattle.dm_edge.specs.Wire.{Purpose, Told, Closed, closed_of, stream_of}
 use Rattle.dm_disk_model.specs.declared.place.Place.{Place}
 use Rattle.dm_disk_model.specs.Disk.{DiskState, History}
 use Rattle.dm_disk_model.specs.Names.{Throughout}
@@ -27,8 +27,8 @@ use Rattle.dm_cli.specs.Get.{file_place, the_part, OnStream, GetSays, IsLast, Ne
 use Rattle.dm_cli.proofs.Causing.{net_failed}
 use Rattle.dm_cli.proofs.Endings.{says_by, sent_whole}
 
-module _ (target : Place) (name : List ℕ) (first : Address) (before between after : List Closed) (asked : Asked) (told : Told) (reader : Reader) (reached : IsReached first before between asked told reader)
-    (new_asked : Asked) (now : Told) (same : new_asked ≡ asked) (sent : now.sent ≡ told.sent) (closed : after ≡ between ++ closed_of new_asked now ∷ []) where
+module _ (target : Place) (name : List ℕ) (first : Address) (before between after : List Closed) (asked : Purpose) (told : Told) (reader : Reader) (reached : IsReached first before between asked told reader)
+    (new_asked : Purpose) (now : Told) (same : new_asked ≡ asked) (sent : now.sent ≡ told.sent) (closed : after ≡ between ++ closed_of new_asked now ∷ []) where
   behind : after ≡ (before ++ reached.led) ++ closed_of new_asked now ∷ []
   behind = closed ∙ ap (λ (c : List Closed). c ++ closed_of new_asked now ∷ []) reached.closed
 

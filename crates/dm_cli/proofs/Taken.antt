@@ -2,7 +2,7 @@
 use Rattle.std.proofs.Common.{List, ℕ, ◌++◌}
 use Rattle.httparse.specs.Grammar.{ResponseHead}
 use Rattle.dm_edge.specs.declared.framing.Framing.{Framing}
-use Rattle.dm_edge.specs.Reply.{BeginsContent}
+use Rattle.dm_edge.specs.Begins.{BeginsContent}
 use Rattle.dm_edge.specs.declared.wanted.Wanted.TheVariants as asks
 use Rattle.dm_head.proofs.PassLemmas.{has_more}
 use Rattle.dm_cli.specs.Causes.{HasContent}

@@ -14,7 +14,8 @@ use Rattle.dm_edge.specs.declared.fault.WireFault.TheVariants as wire
 use Rattle.dm_edge.specs.declared.framing.Framing.{Framing}
 use Rattle.dm_edge.specs.Faults.{wire_kind, net_kind}
 use Rattle.dm_edge.specs.declared.wanted.Wanted.TheVariants as asks
-use Rattle.dm_edge.specs.Reply.{BeginsContent, IsNinthInterim, ComesToBroke, IsShort, IsBadlyChunked, IsOverfull, most_content}
+use Rattle.dm_edge.specs.Begins.{BeginsContent, IsNinthInterim, ComesToBroke, most_content}
+use Rattle.dm_edge.specs.Reply.{IsShort, IsBadlyChunked, IsOverfull}
 use Rattle.dm_disk_model.specs.Folder.{names_of}
 use Rattle.dm_disk_model.specs.Disk.{DiskState}
 use Rattle.dm_words.specs.Name.{fold_case}

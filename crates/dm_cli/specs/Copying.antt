@@ -5,7 +5,8 @@ use Rattle.dm_edge.specs.declared.fault.WireFault.{WireFault}
 use Rattle.dm_edge.specs.Wire.{Told, stream_of}
 use Rattle.dm_disk_model.specs.declared.place.Place.{Place}
 use Rattle.dm_disk_model.specs.Disk.{DiskState, bytes_at}
-use Rattle.dm_edge.specs.Reply.{IsWhole, ContentBroke, most_content}
+use Rattle.dm_edge.specs.Begins.{most_content}
+use Rattle.dm_edge.specs.Reply.{IsWhole, ContentBroke}
 use Rattle.dm_edge.specs.declared.wanted.Wanted.TheVariants as asks
 use Rattle.dm_reply.specs.Faults.{cause_kind}
 use Rattle.dm_reply.specs.Content.{Reader, HasRead}

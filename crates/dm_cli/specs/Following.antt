@@ -5,8 +5,8 @@ use Rattle.dm_policy.specs.declared.cause.Cause.{Cause}
 use Rattle.dm_policy.specs.declared.cause.Cause.TheVariants as cause
 use Rattle.dm_edge.specs.declared.fault.NetFault.{NetFault}
 use Rattle.dm_edge.specs.declared.fault.WireFault.{WireFault}
-use Rattle.dm_edge.specs.Wire.{Asked, Told, Closed, stream_of}
-use Rattle.dm_edge.specs.Reply.{IsNinthInterim, ComesToBroke}
+use Rattle.dm_edge.specs.Wire.{Purpose, Told, Closed, stream_of}
+use Rattle.dm_edge.specs.Begins.{IsNinthInterim, ComesToBroke}
 use Rattle.dm_edge.specs.declared.wanted.Wanted.TheVariants as asks
 use Rattle.dm_reply.specs.declared.head.Kind.{Kind}
 use Rattle.dm_reply.specs.declared.head.Kind.TheVariants as kind
@@ -47,7 +47,7 @@ abbrev pub SentBy : {T : Type 0} → (WireFault → ℕ) → List ℕ → List �
 SentBy counts request sent result = MatchResult result (λ _. sent ≡ request) (SentUntil (CutsWire counts) request sent)
 
 -- a connection for this address was sent the request, its head was read, and content follows
-pub record IsAnswered (at : Address) (request : List ℕ) (asked : Asked) (told : Told) (reader : Reader) : Type 0 where
+pub record IsAnswered (at : Address) (request : List ℕ) (asked : Purpose) (told : Told) (reader : Reader) : Type 0 where
   pub asked_is : asked ≡ asked_for at
   pub sent : told.sent ≡ request
   pub read : HasRead asks.Whole told.given reader []
@@ -56,7 +56,7 @@ pub record IsAnswered (at : Address) (request : List ℕ) (asked : Asked) (told 
 pub record IsRedirected (at : Address) (request : List ℕ) (before after : List Closed) (location : List ℕ) : Type 0 where
   pub connection : Closed
   pub last : after ≡ before ++ connection ∷ []
-  pub asked : connection.asked ≡ asked_for at
+  pub asked : connection.purpose ≡ asked_for at
   pub sent : connection.sent ≡ request
   pub redirects : HasRedirect connection.stream location
 
@@ -64,7 +64,7 @@ pub record IsRedirected (at : Address) (request : List ℕ) (before after : List
 pub record IsBrokenOff (at : Address) (request : List ℕ) (net_before net_after : NetFault → ℕ) (Meets : List ℕ → Cause → Type 0) (before after : List Closed) (broke : Cause) : Type 0 where
   pub connection : Closed
   pub last : after ≡ before ++ connection ∷ []
-  pub asked : connection.asked ≡ asked_for at
+  pub asked : connection.purpose ≡ asked_for at
   pub sent : SentUntil (CutsNet net_before net_after) request connection.sent broke
   pub met : (broke ≡ cause.Memory) ⊎ (IsNetFault net_before net_after broke ⊎ Meets connection.stream broke)
 
@@ -97,7 +97,7 @@ pub record IsLed (first : Address) (before now : List Closed) (at : Address) (fo
   pub leads : Led first led at
 
 -- At most ten connections led to one that stands, whose head was read, and content follows.
-pub record IsReached (first : Address) (before now : List Closed) (asked : Asked) (told : Told) (reader : Reader) : Type 0 where
+pub record IsReached (first : Address) (before now : List Closed) (asked : Purpose) (told : Told) (reader : Reader) : Type 0 where
   pub led : List Closed
   pub few : length led ≤ most_redirects
   pub at : Address

@@ -79,7 +79,7 @@ Unconnected old new before after _ = ⊥
 pub record Connected (target : Place) (name : List ℕ) (at : Address) (followed : ℕ) (old new : DiskState) (disk_before disk_after : DiskKind → ℕ) (net_before net_after : NetFault → ℕ) (before after : List Closed) (ending : Ending) : Type 0 where
   pub connection : Closed
   pub last : after ≡ before ++ connection ∷ []
-  pub asked : connection.asked ≡ asked_for at
+  pub asked : connection.purpose ≡ asked_for at
   pub sent : SentFor (IsNetFault net_before net_after) (request_of at None) connection.sent ending
   pub says : OnStream target name old new disk_before disk_after (Meets (IsNetFault net_before net_after) at followed old name connection.stream) connection.stream ending
 

@@ -2,8 +2,8 @@
 use Rattle.std.specs.Prelude.{◌≡◌, ℕ, List, [], ◌∷◌, None}
 use Rattle.httparse.specs.Grammar.{ResponseHead}
 use Rattle.dm_types.specs.declared.address.Address.{Address}
-use Rattle.dm_edge.specs.Wire.{Asked, Closed}
-use Rattle.dm_edge.specs.Reply.{BeginsRedirect}
+use Rattle.dm_edge.specs.Wire.{Purpose, Closed}
+use Rattle.dm_edge.specs.Begins.{BeginsRedirect}
 use Rattle.dm_edge.specs.declared.wanted.Wanted.TheVariants as asks
 use Rattle.dm_request.specs.Fault.{IsNext}
 use Rattle.dm_request.specs.Request.{request_of}
@@ -13,7 +13,7 @@ abbrev pub most_redirects : ℕ
 most_redirects = 10
 
 -- the first attempt on the first item
-abbrev pub asked_for : Address → Asked
+abbrev pub asked_for : Address → Purpose
 asked_for address = record { address = address; id = record { 0 = 1 }; attempt = record { 0 = 1 } }
 
 -- the stream is a redirect with this Location
@@ -27,7 +27,7 @@ IsNowhere base location = (next : Address) → ¬ IsNext base location next
 
 -- A connection was made for the one address and was sent its whole request, and its stream leads to the other.
 pub record LedOn (from to : Address) (connection : Closed) : Type 0 where
-  pub asked : connection.asked ≡ asked_for from
+  pub asked : connection.purpose ≡ asked_for from
   pub sent : connection.sent ≡ request_of from None
   pub location : List ℕ
   pub redirects : HasRedirect connection.stream location

@@ -49,7 +49,7 @@ fn land_next<D: Disk, W: Wire>(
     ensures stands { D.tells → IfOk result (λ _. Stands (now (D.history disk.new)) part.now) }
     ensures keeps { D.tells → KeepsOthers part.now (D.history disk.old) (D.history disk.new) }
     ensures sent { W.tells → (W.told wire.new).sent ≡ (W.told wire.old).sent }
-    ensures stays { W.asked wire.new ≡ W.asked wire.old }
+    ensures stays { W.purpose wire.new ≡ W.purpose wire.old }
     ensures wire_cause { HasCause stopped_wire (W.faults wire.old) (W.faults wire.new) result }
     ensures disk_cause { HasCause stopped_disk (D.faults disk.old) (D.faults disk.new) result }
 {
@@ -81,7 +81,7 @@ pub fn copy_content<D: Disk, W: Wire>(
     ensures stands { D.tells → IfOk result (λ _. Stands (now (D.history disk.new)) part.now) }
     ensures keeps { D.tells → KeepsOthers part.now (D.history disk.old) (D.history disk.new) }
     ensures sent { W.tells → (W.told wire.new).sent ≡ (W.told wire.old).sent }
-    ensures stays { W.asked wire.new ≡ W.asked wire.old }
+    ensures stays { W.purpose wire.new ≡ W.purpose wire.old }
     ensures wire_cause { HasCause stopped_wire (W.faults wire.old) (W.faults wire.new) result }
     ensures disk_cause { HasCause stopped_disk (D.faults disk.old) (D.faults disk.new) result }
 {

@@ -95,7 +95,7 @@ fn talk<W: Wire>(
     ensures broke { W.tells → IsFresh (W.told wire.old)
         → IfErr result (TalkBroke (W.faults wire.new) (stream_of (W.told wire.new))) }
     ensures sent { W.tells → IsFresh (W.told wire.old) → SentBy (W.faults wire.new) request.now (W.told wire.new).sent result }
-    ensures stays { W.asked wire.new ≡ W.asked wire.old }
+    ensures stays { W.purpose wire.new ≡ W.purpose wire.old }
     ensures later { NoneFell (W.faults wire.old) (W.faults wire.new) }
 {
     match wire.send(request) {
@@ -117,11 +117,11 @@ fn hear<N: Net>(
     reader: ReplyReader,
 ) -> Result<Answered<N::W>, NoContent>
     requires unread { reader ≡ unread asks.Whole }
-    ensures content { N.tells → IsFresh (N.W.told wire) → N.W.asked wire ≡ asked_for aim.now.address
-        → IfOk result (λ answered. IsAnswered aim.now.address aim.now.request (N.W.asked answered.wire) (N.W.told answered.wire) answered.reader) }
+    ensures content { N.tells → IsFresh (N.W.told wire) → N.W.purpose wire ≡ asked_for aim.now.address
+        → IfOk result (λ answered. IsAnswered aim.now.address aim.now.request (N.W.purpose answered.wire) (N.W.told answered.wire) answered.reader) }
     ensures closed { IfOk result (λ _. N.closed net.new ≡ N.closed net.old) }
     ensures ready { IfOk result (λ answered. (answered.reader.reading.given ≡ 0) × (answered.reader.reading.broke ≡ None)) }
-    ensures none { N.tells → IsFresh (N.W.told wire) → N.W.asked wire ≡ asked_for aim.now.address
+    ensures none { N.tells → IsFresh (N.W.told wire) → N.W.purpose wire ≡ asked_for aim.now.address
         → IfErr result (NoneSays aim.now.address aim.now.request (N.faults net.old) (N.faults net.new) (N.closed net.old) (N.closed net.new)) }
     ensures later { NoneFell (N.faults net.old) (N.faults net.new) }
 {
@@ -143,7 +143,7 @@ fn hear<N: Net>(
 /// Connects for the address, and asks.
 fn ask<N: Net>(alloc: Global, net: &mut N, aim: &Aim) -> Result<Answered<N::W>, NoContent>
     ensures content { N.tells
-        → IfOk result (λ answered. IsAnswered aim.now.address aim.now.request (N.W.asked answered.wire) (N.W.told answered.wire) answered.reader) }
+        → IfOk result (λ answered. IsAnswered aim.now.address aim.now.request (N.W.purpose answered.wire) (N.W.told answered.wire) answered.reader) }
     ensures closed { IfOk result (λ _. N.closed net.new ≡ N.closed net.old) }
     ensures ready { IfOk result (λ answered. (answered.reader.reading.given ≡ 0) × (answered.reader.reading.broke ≡ None)) }
     ensures none { N.tells
@@ -209,7 +209,7 @@ fn next_aim(alloc: Global, aim: &Aim, none: NoContent, followed: u32) -> Result<
 pub fn follow<N: Net>(alloc: Global, net: &mut N, first: Aim) -> Result<Answered<N::W>, Cause>
     requires request { first.request ≡ request_of first.address None }
     ensures reached { N.tells
-        → IfOk result (λ answered. IsReached first.address (N.closed net.old) (N.closed net.new) (N.W.asked answered.wire) (N.W.told answered.wire) answered.reader) }
+        → IfOk result (λ answered. IsReached first.address (N.closed net.old) (N.closed net.new) (N.W.purpose answered.wire) (N.W.told answered.wire) answered.reader) }
     ensures ready { IfOk result (λ answered. (answered.reader.reading.given ≡ 0) × (answered.reader.reading.broke ≡ None)) }
     ensures stopped { N.tells
         → IfErr result (IsStopped first.address (N.faults net.old) (N.faults net.new) (N.closed net.old) (N.closed net.new)) }

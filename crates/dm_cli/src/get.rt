@@ -133,7 +133,7 @@ fn store_free<D: Disk, W: Wire>(
         → Throughout (D.history disk.old) (D.history disk.new) (NeverPartial target.now (stream_of (W.told wire.new))) }
     ensures others { D.tells → LeavesOthers part.now target.now (now (D.history disk.old)) (now (D.history disk.new)) }
     ensures sent { W.tells → (W.told wire.new).sent ≡ (W.told wire.old).sent }
-    ensures stays { W.asked wire.new ≡ W.asked wire.old }
+    ensures stays { W.purpose wire.new ≡ W.purpose wire.old }
     ensures wire_later { NoneFell (W.faults wire.old) (W.faults wire.new) }
     ensures disk_later { NoneFell (D.faults disk.old) (D.faults disk.new) }
 {
@@ -171,7 +171,7 @@ fn store<D: Disk, W: Wire>(
         → Throughout (D.history disk.old) (D.history disk.new) (NeverPartial target.now (stream_of (W.told wire.new))) }
     ensures others { D.tells → LeavesOthers part.now target.now (now (D.history disk.old)) (now (D.history disk.new)) }
     ensures sent { W.tells → (W.told wire.new).sent ≡ (W.told wire.old).sent }
-    ensures stays { W.asked wire.new ≡ W.asked wire.old }
+    ensures stays { W.purpose wire.new ≡ W.purpose wire.old }
     ensures wire_later { NoneFell (W.faults wire.old) (W.faults wire.new) }
     ensures disk_later { NoneFell (D.faults disk.old) (D.faults disk.new) }
 {

@@ -9,7 +9,7 @@ use Rattle.dm_edge.specs.declared.counts.WireCounts.{WireCounts}
 use Rattle.dm_edge.specs.declared.fault.WireFault.{WireFault}
 use Rattle.dm_edge.specs.Counts.{raised_by}
 use Rattle.dm_edge.specs.Script.{fault_at, next_size, WireState, GivesNext}
-use Rattle.dm_edge.specs.Wire.{Asked, Told, Receives}
+use Rattle.dm_edge.specs.Wire.{Purpose, Told, Receives}
 
 -- a cut is at least 1, so a buffer with room may get a byte
 pub may_give : (cuts : List ℕ) (k room : ℕ) → All (λ cut. 0 < cut) cuts → 0 < room → 0 < option_map_or (min room) (slice_get cuts k) room
@@ -42,18 +42,18 @@ received given n stream sent buffer bytes ended = record {
   );
 }
 
-abbrev pub wire_at : Asked → Told → List ℕ → List (ℕ × WireFault) → ℕ → ℕ → WireCounts → WireState
-wire_at asked told cuts failing calls receives counts =
-    record { asked = asked; told = told; cuts = cuts; failing = failing; calls = calls; receives = receives; counts = counts }
+abbrev pub wire_at : Purpose → Told → List ℕ → List (ℕ × WireFault) → ℕ → ℕ → WireCounts → ℕ → WireState
+wire_at purpose told cuts failing calls receives counts wants =
+    record { purpose = purpose; told = told; cuts = cuts; failing = failing; calls = calls; receives = receives; counts = counts; wants = wants }
 
 -- where the wire stands then
-pub gave : (asked : Asked) (cuts : List ℕ) (failing : List (ℕ × WireFault)) (calls receives next after : ℕ) (counts : WireCounts)
+pub gave : (purpose : Purpose) (cuts : List ℕ) (failing : List (ℕ × WireFault)) (calls receives next after : ℕ) (counts : WireCounts) (wants : ℕ)
     (given n : ℕ) (stream sent buffer : List ℕ) → fault_at failing calls ≡ None
-    → n ≡ next_size (wire_at asked (told_at given stream sent) cuts failing calls receives counts) (length buffer)
+    → n ≡ next_size (wire_at purpose (told_at given stream sent) cuts failing calls receives counts wants) (length buffer)
     → take n buffer ≡ take n (drop given stream) → next ≡ raised_by 1 calls → after ≡ raised_by 1 receives
-    → GivesNext (wire_at asked (told_at given stream sent) cuts failing calls receives counts)
-    (wire_at asked (told_at (given + n) stream sent) cuts failing next after counts) n buffer
-gave asked cuts failing calls receives next after counts given n stream sent buffer unlisted size bytes called received = record {
+    → GivesNext (wire_at purpose (told_at given stream sent) cuts failing calls receives counts wants)
+    (wire_at purpose (told_at (given + n) stream sent) cuts failing next after counts wants) n buffer
+gave purpose cuts failing calls receives next after counts wants given n stream sent buffer unlisted size bytes called received = record {
   unlisted = unlisted;
   size = size;
   bytes = bytes;

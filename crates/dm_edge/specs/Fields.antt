@@ -1,5 +1,5 @@
 -- The fields of a reply's head, and what those that frame the content say (RFC 9110, sections 5, 8.4 and 8.6; RFC 9112, section 6).
-use Rattle.std.specs.Prelude.{◌≡◌, ◌≢◌, ℕ, ◌≤◌, Bool, List, [], ◌∷◌, length, map, filter, All, IsTrue, codes, nat_le, if◌then◌else◌}
+use Rattle.std.specs.Prelude.{◌≡◌, ◌≢◌, ℕ, Bool, List, [], ◌∷◌, map, filter, All, IsTrue, codes}
 use Rattle.std.specs.List.{list_all}
 use Rattle.std.specs.Str.{str_eq_ignore_ascii_case}
 use Rattle.httparse.specs.Grammar.{ResponseHead}
@@ -22,12 +22,6 @@ values_of name fields = map (λ (field : NameAndValue). field.1) (filter (has_na
 
 abbrev pub fields_of : ResponseHead → List NameAndValue
 fields_of head = map name_and_value head.fields
-
--- the only value among these, where it is at most so long
-abbrev pub only_within : ℕ → List (List ℕ) → List ℕ
-only_within most [] = []
-only_within most (value ∷ []) = if nat_le (length value) most then value else []
-only_within most (value ∷ other ∷ others) = []
 
 -- each Content-Encoding is identity: the content is as it is (RFC 9110, section 8.4)
 abbrev pub is_plain : List NameAndValue → Bool

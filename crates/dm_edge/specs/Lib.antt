@@ -1,3 +1,5 @@
+pub mod Begins
+pub mod Causes
 pub mod Chain
 pub mod Counts
 pub mod Fair

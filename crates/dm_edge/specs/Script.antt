@@ -10,7 +10,7 @@ use Rattle.dm_edge.specs.declared.fault.WireFault.TheVariants as wire
 use Rattle.dm_edge.specs.declared.script.Exchange.{Exchange}
 use Rattle.dm_edge.specs.declared.script.WireScript.{WireScript}
 use Rattle.dm_edge.specs.Counts.{raised_by, wire_raised, net_raised, net_joined}
-use Rattle.dm_edge.specs.Wire.{Asked, Told, Closed, closed_of}
+use Rattle.dm_edge.specs.Wire.{Purpose, Told, Closed, closed_of}
 
 -- the fault that is listed under a call's number, the first where there are several
 abbrev pub fault_at : {F : Type 0} → List (ℕ × F) → ℕ → Option F
@@ -29,7 +29,7 @@ pub record IsGoodWire (given : ℕ) (stream cuts : List ℕ) (failing : List (�
   pub faults : All (λ entry. entry.1 ≢ wire.NoMemory) failing
 
 pub record WireState : Type 0 where
-  pub asked : Asked
+  pub purpose : Purpose
   pub told : Told
   pub cuts : List ℕ
   pub failing : List (ℕ × WireFault)
@@ -38,17 +38,20 @@ pub record WireState : Type 0 where
   -- the number of the next receive, from 0
   pub receives : ℕ
   pub counts : WireCounts
+  -- how often memory was wanting
+  pub wants : ℕ
 
 -- a wire at the start of its script
-abbrev pub fresh_wire : Asked → WireScript → WireState
-fresh_wire asked script = record {
-  asked = asked;
+abbrev pub fresh_wire : Purpose → WireScript → WireState
+fresh_wire purpose script = record {
+  purpose = purpose;
   told = record { given = []; left = script.stream; sent = [] };
   cuts = script.cuts;
   failing = script.failing;
   calls = 0;
   receives = 0;
   counts = record { failed = 0; timeout = 0 };
+  wants = 0;
 }
 
 -- a send that isn't listed adds its whole piece
@@ -56,11 +59,11 @@ pub record SendsAll (before now : WireState) (piece : List ℕ) : Type 0 where
   pub unlisted : fault_at before.failing before.calls ≡ None
   pub after : now ≡ record before { told = record before.told { sent = before.told.sent ++ piece }; calls = raised_by 1 before.calls }
 
--- a send that is listed fails in that way, any other one only for want of memory, and then nothing has changed
+-- a send that is listed fails in that way, any other one only for want of memory, and then nothing else has changed
 abbrev pub SendFails : WireState → WireState → WireFault → Type 0
 SendFails before now fault =
     ((fault_at before.failing before.calls ≡ Some fault) × (now ≡ record before { calls = raised_by 1 before.calls; counts = wire_raised fault before.counts }))
-    ⊎ ((fault_at before.failing before.calls ≡ None) × (fault ≡ wire.NoMemory) × (now ≡ before))
+    ⊎ ((fault_at before.failing before.calls ≡ None) × (fault ≡ wire.NoMemory) × (now ≡ record before { wants = raised_by 1 before.wants }))
 
 -- how many bytes this receive gives: what the buffer holds, and no more than its cut says or is left
 abbrev pub next_size : WireState → ℕ → ℕ
@@ -85,7 +88,7 @@ pub record ReceiveFails (before now : WireState) (fault : WireFault) : Type 0 wh
 -- what is kept of a closed wire
 abbrev pub closed_as : Exchange → Closed
 closed_as exchange = record {
-  asked = record { address = exchange.address; id = exchange.id; attempt = exchange.attempt };
+  purpose = record { address = exchange.address; id = exchange.id; attempt = exchange.attempt };
   sent = exchange.sent;
   stream = exchange.stream;
 }
@@ -115,12 +118,12 @@ fresh_net scripts failing = record {
 }
 
 -- a connect that isn't listed takes the next wire
-pub record Connects (before now : NetState) (asked : Asked) (made : WireState) : Type 0 where
+pub record Connects (before now : NetState) (purpose : Purpose) (made : WireState) : Type 0 where
   pub unlisted : fault_at before.failing before.calls ≡ None
   pub script : WireScript
   pub next : before.coming ≡ script ∷ now.coming
   pub after : now ≡ record before { coming = now.coming; calls = raised_by 1 before.calls }
-  pub fresh : made ≡ fresh_wire asked script
+  pub fresh : made ≡ fresh_wire purpose script
 
 -- after a connect that failed
 abbrev pub failed_connect : NetFault → NetState → NetState
@@ -136,4 +139,4 @@ ConnectFails before now fault =
 
 -- a net after it took a wire back
 abbrev pub with_closed : NetState → WireState → NetState
-with_closed net wire = record net { closed = net.closed ++ closed_of wire.asked wire.told ∷ []; counts = net_joined wire.counts net.counts }
+with_closed net wire = record net { closed = net.closed ++ closed_of wire.purpose wire.told ∷ []; counts = net_joined wire.counts net.counts }

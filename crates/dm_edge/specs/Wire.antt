@@ -1,12 +1,14 @@
 -- What a wire tells: the bytes that it gave and has left, and those that were sent on it.
-use Rattle.std.specs.Prelude.{◌≡◌, ℕ, ◌<◌, List, [], ◌++◌, length, take, Result, MatchResult}
+use Rattle.std.specs.Prelude.{◌≡◌, ℕ, ◌<◌, ◌≤◌, List, [], ◌++◌, length, take, Result, MatchResult, IfErr}
+use Rattle.dm_types.specs.Faults.{Rose}
 use Rattle.dm_types.specs.declared.address.Address.{Address}
 use Rattle.dm_types.specs.declared.item.ItemId.{ItemId}
 use Rattle.dm_types.specs.declared.item.Attempt.{Attempt}
 use Rattle.dm_edge.specs.declared.fault.WireFault.{WireFault}
+use Rattle.dm_edge.specs.declared.fault.WireFault.TheVariants as fault
 
 -- what a connection was made for
-pub record Asked : Type 0 where
+pub record Purpose : Type 0 where
   pub address : Address
   pub id : ItemId
   pub attempt : Attempt
@@ -46,11 +48,22 @@ pub record Receives (before now : Told) (result : Result ℕ WireFault) (buffer 
   pub sent : now.sent ≡ before.sent
   pub given : MatchResult result (Gives before now buffer) (λ _. (now.given ≡ before.given) × (now.left ≡ before.left))
 
+-- How often the wire wanted memory never falls, and want of memory is answered only where that rose.
+pub record WantsBy {T : Type 0} (before now : ℕ) (result : Result T WireFault) : Type 0 where
+  pub later : before ≤ now
+  pub rose : IfErr result (λ broke. broke ≡ fault.NoMemory → Rose before now)
+
+-- what a wire shows: what it was made for, what it tells, and how often its calls failed, by kind
+pub record Seen : Type 0 where
+  pub purpose : Purpose
+  pub told : Told
+  pub counts : WireFault → ℕ
+
 -- a connection that is over: what it was made for, what was sent on it, and its stream as it stood at last
 pub record Closed : Type 0 where
-  pub asked : Asked
+  pub purpose : Purpose
   pub sent : List ℕ
   pub stream : List ℕ
 
-abbrev pub closed_of : Asked → Told → Closed
-closed_of asked told = record { asked = asked; sent = told.sent; stream = stream_of told }
+abbrev pub closed_of : Purpose → Told → Closed
+closed_of purpose told = record { purpose = purpose; sent = told.sent; stream = stream_of told }

@@ -1,6 +1,7 @@
 //! The outside as `dm` meets it: wires, nets, sinks and clocks, and the origin that says the bytes.
 #![tactic(auto)]
 
+mod cause;
 mod chain;
 mod clock;
 mod clock_list;
@@ -17,6 +18,7 @@ mod wanted;
 mod wire;
 mod wire_mem;
 
+pub use cause::{net_cause, wire_cause};
 pub use clock::Clock;
 pub use clock_list::ClockList;
 pub use counts::{NetCounts, WireCounts};
@@ -28,7 +30,7 @@ pub use origin::{EveryByte, Generated, Origin};
 pub use script::{Exchange, NetFails, WireFails, WireScript, WireScripts};
 pub use sink::Sink;
 pub use sink_mem::SinkMem;
-pub use wanted::Wanted;
+pub use wanted::{Wanted, ask_for};
 pub use wire::Wire;
 pub use wire_mem::WireMem;
 

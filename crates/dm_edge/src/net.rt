@@ -38,7 +38,7 @@ pub trait Net {
         attempt: Attempt,
     ) -> Result<Self::W, NetFault>
         ensures fresh { IfOk result (λ wire. Self.W.tells → IsFresh (Self.W.told wire)) }
-        ensures asked { IfOk result (λ wire. Self.W.tells → Self.W.asked wire ≡ record { address = address.now; id = id; attempt = attempt }) }
+        ensures purpose { IfOk result (λ wire. Self.W.tells → Self.W.purpose wire ≡ record { address = address.now; id = id; attempt = attempt }) }
         ensures unfailed { IfOk result (λ wire. (kind : OnWire) → Self.W.faults wire kind ≡ 0) }
         ensures wire_origin { IfOk result (λ wire. Self.W.origin wire ≡ origin_of self.old) }
         ensures closed { closed self.new ≡ closed self.old }
@@ -47,7 +47,7 @@ pub trait Net {
 
     /// Takes a wire back. It takes no memory and cannot fail.
     fn close(&mut self, wire: Self::W)
-        ensures closed { tells → closed self.new ≡ closed self.old ++ closed_of (Self.W.asked wire) (Self.W.told wire) ∷ [] }
+        ensures closed { tells → closed self.new ≡ closed self.old ++ closed_of (Self.W.purpose wire) (Self.W.told wire) ∷ [] }
         ensures stays { origin_of self.new ≡ origin_of self.old }
         ensures later { NoneFell (faults self.old) (faults self.new) }
         ensures counted { (kind : OnWire) → 0 < Self.W.faults wire kind

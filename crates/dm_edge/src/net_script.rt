@@ -51,18 +51,6 @@ impl From<NoMemory> for NetFault {
     }
 }
 
-/// What a wire keeps of what it was connected for.
-fn copied(alloc: Global, address: &Address) -> Result<Address, NoMemory>
-    ensures { IfOk result (λ copy. copy ≡ address.now) }
-{
-    Ok(Address {
-        text: address.text.copy(alloc)?,
-        host: address.host.copy(alloc)?,
-        port: address.port,
-        target: address.target.copy(alloc)?,
-    })
-}
-
 impl NetScript {
     /// A net with these wires, whose listed connects fail. The lists are taken over, so no memory
     /// is wanting here, only in `connect`.
@@ -133,7 +121,7 @@ impl Net for NetScript {
         attempt: Attempt,
     ) -> Result<WireMem, NetFault>
         ensures fresh { IfOk result (λ wire. IsFresh wire.told) }
-        ensures asked { IfOk result (λ wire. wire.asked ≡ record { address = address.now; id = id; attempt = attempt }) }
+        ensures purpose { IfOk result (λ wire. wire.purpose ≡ record { address = address.now; id = id; attempt = attempt }) }
         ensures unfailed { IfOk result (λ wire. (kind : OnWire) → wire_count wire.counts kind ≡ 0) }
         ensures closed { self.new.closed ≡ self.old.closed }
         ensures cause { HasCause net_kind (net_count self.old.counts) (net_count self.new.counts) result }
@@ -148,7 +136,7 @@ impl Net for NetScript {
         if self.coming.is_empty() {
             return Err(self.fail(NetFault::NoRoute));
         }
-        let address = copied(alloc, address)?;
+        let address = address.copy(alloc)?;
         let Ok(spare) = Box::new(alloc, Chain::new()) else {
             return Err(NetFault::NoMemory);
         };
@@ -171,6 +159,7 @@ impl Net for NetScript {
             calls: 0,
             receives: 0,
             counts: WireCounts::NONE,
+            wants: 0,
             spare,
         })
     }
@@ -189,6 +178,7 @@ impl Net for NetScript {
             calls: _,
             receives: _,
             counts,
+            wants: _,
             spare,
         } = wire;
         self.closed.push(exchange, spare);

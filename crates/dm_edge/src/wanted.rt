@@ -1,4 +1,9 @@
-use dm_types::Text;
+ghost use Rattle.std.specs.Prelude.{◌≡◌, IfOk};
+ghost use Rattle.dm_edge.specs.Fair.{ask_of};
+
+use dm_request::Ask;
+use dm_types::{NoMemory, Text};
+use std::alloc::Global;
 
 /// What a request asks for.
 #[derive(Debug, Drop)]
@@ -16,4 +21,23 @@ pub enum Wanted {
         /// How many bytes the whole content has.
         total: u64,
     },
+}
+
+/// The range that a request names for what is wanted. The tag is copied.
+pub fn ask_for(alloc: Global, wanted: &Wanted) -> Result<Option<Ask>, NoMemory>
+    ensures { IfOk result (λ ask. ask ≡ ask_of wanted.now) }
+{
+    match wanted {
+        Wanted::Whole => Ok(None),
+        Wanted::Part {
+            first,
+            last,
+            tag,
+            total: _,
+        } => Ok(Some(Ask {
+            first: *first,
+            last: *last,
+            tag: tag.copy(alloc)?,
+        })),
+    }
 }

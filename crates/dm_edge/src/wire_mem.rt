@@ -4,7 +4,7 @@ ghost use Rattle.dm_types.specs.Faults.{HasCause};
 ghost use Rattle.dm_edge.specs.Counts.{wire_count};
 ghost use Rattle.dm_edge.specs.Faults.{wire_kind};
 ghost use Rattle.dm_edge.specs.Script.{SendsAll, SendFails, GivesNext, ReceiveFails};
-ghost use Rattle.dm_edge.specs.Wire.{Sends, Receives};
+ghost use Rattle.dm_edge.specs.Wire.{Sends, Receives, WantsBy};
 
 use crate::chain::Chain;
 use crate::script::listed_fault;
@@ -23,6 +23,8 @@ pub struct WireMem {
     pub(crate) calls: u64,
     pub(crate) receives: u64,
     pub(crate) counts: WireCounts,
+    /// How often memory was wanting.
+    pub(crate) wants: u64,
     /// The room in which its net keeps the exchange, once the wire is closed.
     pub(crate) spare: Box<Chain>,
 }
@@ -34,13 +36,14 @@ impl Model for WireMem {
     ghost Value = { WireState };
 
     ghost view = { λ w. record {
-      asked = record { address = w.exchange.address; id = w.exchange.id; attempt = w.exchange.attempt };
+      purpose = record { address = w.exchange.address; id = w.exchange.id; attempt = w.exchange.attempt };
       told = record { given = take w.given w.exchange.stream; left = drop w.given w.exchange.stream; sent = w.exchange.sent };
       cuts = w.cuts;
       failing = w.failing;
       calls = w.calls;
       receives = w.receives;
       counts = w.counts;
+      wants = w.wants;
     } };
 
     ghost invariant = { λ w. IsGoodWire w.given w.exchange.stream w.cuts w.failing };
@@ -84,11 +87,13 @@ impl Wire for WireMem {
 
     ghost origin = { λ _. record {} };
 
-    ghost asked = { λ w. w.asked };
+    ghost purpose = { λ w. w.purpose };
 
     ghost told = { λ w. w.told };
 
     ghost faults = { λ w. wire_count w.counts };
+
+    ghost wants = { λ w. w.wants };
 
     ghost use Rattle.std.proofs.Common.{inl};
 
@@ -96,8 +101,9 @@ impl Wire for WireMem {
 
     fn send(&mut self, piece: &[u8]) -> Result<(), WireFault>
         ensures sent { Sends self.old.told self.new.told result piece.now }
-        ensures stays { self.new.asked ≡ self.old.asked }
+        ensures stays { self.new.purpose ≡ self.old.purpose }
         ensures cause { HasCause wire_kind (wire_count self.old.counts) (wire_count self.new.counts) result }
+        ensures wants { WantsBy self.old.wants self.new.wants result }
 
         // In memory the answer is determined, but for want of memory.
         ensures ok { OnOk result (SendsAll self.old self.new piece.now) }
@@ -109,6 +115,7 @@ impl Wire for WireMem {
             return Err(fault);
         }
         if self.exchange.sent.push_bytes(piece).is_err() {
+            self.wants = self.wants.saturating_add(1);
             return Err(WireFault::NoMemory);
         }
         self.calls = self.calls.saturating_add(1);
@@ -118,8 +125,9 @@ impl Wire for WireMem {
     fn receive(&mut self, buf: &mut [u8]) -> Result<usize, WireFault>
         ensures within { IfOk result (λ n. n ≤ length buf.old) }
         ensures given { Receives self.old.told self.new.told result buf.new }
-        ensures stays { self.new.asked ≡ self.old.asked }
+        ensures stays { self.new.purpose ≡ self.old.purpose }
         ensures cause { HasCause wire_kind (wire_count self.old.counts) (wire_count self.new.counts) result }
+        ensures wants { WantsBy self.old.wants self.new.wants result }
 
         // In memory the answer is determined.
         ensures ok { IfOk result (λ n. GivesNext self.old self.new n buf.new) }

@@ -1,4 +1,8 @@
-ghost use Rattle.std.specs.Prelude.{◌≡◌, ◌≤◌, ◌<◌, ◌^◌, length, IfOk};
+ghost use Rattle.std.specs.Prelude.{◌≡◌, ◌≤◌, ◌<◌, ◌^◌, length, IfOk, Err};
+ghost use Rattle.dm_types.specs.Faults.{HasCause};
+ghost use Rattle.dm_edge.specs.Counts.{wire_count};
+ghost use Rattle.dm_edge.specs.Faults.{wire_kind};
+ghost use Rattle.dm_edge.specs.Wire.{WantsBy};
 
 use crate::faults::{lookup_fault, net_fault, wire_fault};
 use dm_edge::{EveryByte, Net, NetCounts, NetFault, Wire, WireCounts, WireFault};
@@ -16,23 +20,37 @@ const PATIENCE: u64 = 30;
 /// The most addresses of one host that are tried.
 const MOST_ADDRESSES: usize = 32;
 
-/// A connection over TCP. Contracts see how often its calls failed.
+/// A connection over TCP. Contracts see how often its calls failed, and how often memory was
+/// wanting.
 pub struct TcpWire<S> {
     stream: S,
     counts: WireCounts,
+    wants: u64,
 }
 
 impl<S> Model for TcpWire<S> {
-    ghost use Rattle.dm_edge.specs.declared.counts.WireCounts.{WireCounts};
+    ghost use Rattle.dm_edge_real.specs.Untold.{Failures};
 
-    ghost Value = { WireCounts };
+    ghost Value = { Failures };
 
-    ghost view = { λ w. w.counts };
+    ghost view = { λ w. record { counts = w.counts; wants = w.wants } };
+}
+
+impl<S> TcpWire<S> {
+    /// Counts a fault by its kind, or that memory was wanting.
+    fn count(&mut self, fault: WireFault)
+        ensures cause { HasCause {T = Unit {0}} wire_kind (wire_count self.old.counts) (wire_count self.new.counts) (Err fault) }
+        ensures wants { WantsBy {T = Unit {0}} self.old.wants self.new.wants (Err fault) }
+    {
+        match fault {
+            WireFault::NoMemory => self.wants = self.wants.saturating_add(1),
+            _ => self.counts.raise(fault),
+        }
+    }
 }
 
 impl<S: Read + Write + Drop> Wire for TcpWire<S> {
-    ghost use Rattle.dm_edge.specs.Counts.{wire_count};
-    ghost use Rattle.dm_edge_real.specs.Untold.{nothing_asked, nothing_told};
+    ghost use Rattle.dm_edge_real.specs.Untold.{no_purpose, nothing_told};
 
     type O = EveryByte;
 
@@ -40,11 +58,13 @@ impl<S: Read + Write + Drop> Wire for TcpWire<S> {
 
     ghost origin = { λ _. record {} };
 
-    ghost asked = { λ _. nothing_asked };
+    ghost purpose = { λ _. no_purpose };
 
     ghost told = { λ _. nothing_told };
 
-    ghost faults = { wire_count };
+    ghost faults = { λ w. wire_count w.counts };
+
+    ghost wants = { λ w. w.wants };
 
     ghost use Rattle.std.proofs.Common.{inl};
 
@@ -53,7 +73,7 @@ impl<S: Read + Write + Drop> Wire for TcpWire<S> {
     fn send(&mut self, piece: &[u8]) -> Result<(), WireFault> {
         let sent = send_all(&mut self.stream, piece);
         if let Err(fault) = sent {
-            self.counts.raise(fault);
+            self.count(fault);
         }
         sent
     }
@@ -61,7 +81,7 @@ impl<S: Read + Write + Drop> Wire for TcpWire<S> {
     fn receive(&mut self, buf: &mut [u8]) -> Result<usize, WireFault> {
         let got = receive_some(&mut self.stream, buf);
         if let Err(fault) = got {
-            self.counts.raise(fault);
+            self.count(fault);
         }
         got
     }
@@ -165,6 +185,7 @@ impl<R: net::Net> Net for TcpNet<R> {
             Ok(stream) => Ok(TcpWire {
                 stream,
                 counts: WireCounts::NONE,
+                wants: 0,
             }),
             Err(fault) => {
                 self.counts.raise(fault);
@@ -177,6 +198,7 @@ impl<R: net::Net> Net for TcpNet<R> {
         let TcpWire {
             stream: _stream,
             counts,
+            wants: _,
         } = wire;
         self.counts.join(counts);
     }

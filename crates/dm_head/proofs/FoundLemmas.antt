@@ -10,7 +10,7 @@ use Rattle.dm_edge.specs.declared.framing.Framing.{Framing}
 use Rattle.dm_edge.specs.declared.wanted.Wanted.{Wanted}
 use Rattle.dm_head.specs.declared.part.Extent.{Extent}
 use Rattle.dm_edge.specs.Head.{most_head, most_interim, Passes, ComesTo, long}
-use Rattle.dm_edge.specs.Reply.{BeginsContent, BeginsRedirect, FrontBroke, HeadBroke}
+use Rattle.dm_edge.specs.Begins.{BeginsContent, BeginsRedirect, FrontBroke, HeadBroke}
 use Rattle.dm_head.specs.declared.metadata.Metadata.{Metadata}
 use Rattle.dm_head.specs.Look.{FindsInterim, FindsContent, FindsRedirect, IsOpen}
 use Rattle.dm_head.proofs.PassLemmas.{comes_more, ninth_more, final_goes_on}

@@ -17,7 +17,7 @@ use Rattle.dm_edge.specs.Head.{most_head, most_fields, BeginsWith, BeginsFinal, 
 use Rattle.dm_edge.specs.declared.wanted.Wanted.{Wanted}
 use Rattle.dm_edge.specs.declared.framing.Framing.{Framing}
 use Rattle.dm_edge.specs.declared.framing.Framing.TheVariants.{Counted}
-use Rattle.dm_edge.specs.Reply.{content_status, leads_on, refuses_range, most_content, LeadsTo, GoesOn, IsGoodHead, Fits, IsOtherPart, MissesSize, TellsWhole, HasLostRedirect, HasEncoded, HasBadFraming, HasOtherStatus, HasRefusal, HasOtherPart, HasOtherSize, HasTooLarge}
+use Rattle.dm_edge.specs.Begins.{content_status, leads_on, refuses_range, most_content, LeadsTo, GoesOn, IsGoodHead, Fits, IsOtherPart, MissesSize, TellsWhole, HasLostRedirect, HasEncoded, HasBadFraming, HasOtherStatus, HasRefusal, HasOtherPart, HasOtherSize, HasTooLarge}
 use Rattle.dm_head.specs.declared.framing.Framed.TheVariants as framed
 use Rattle.dm_head.specs.declared.whole.Kind.TheVariants as kind
 use Rattle.dm_head.specs.declared.fields.Values.{Values}

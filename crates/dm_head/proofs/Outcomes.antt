@@ -14,7 +14,7 @@ use Rattle.dm_edge.specs.Head.{most_head, most_fields, BeginsWith, BeginsFinal, 
 use Rattle.dm_edge.specs.declared.wanted.Wanted.{Wanted}
 use Rattle.dm_edge.specs.declared.wanted.Wanted.TheVariants.{Whole, Part}
 use Rattle.dm_edge.specs.Part.{IsAskedPart, part_size, FitsSize, told_whole}
-use Rattle.dm_edge.specs.Reply.{content_status, leads_on, refuses_range, most_content, LeadsTo, LeadsNowhere, GoesOn, IsOtherStatus, IsGoodHead, KeepsLimit, Fits, IsOtherPart, MissesSize, TellsWhole, BeginsContent, BeginsRedirect, FrontBroke, ComesToBroke, HeadBroke, IsOfWire}
+use Rattle.dm_edge.specs.Begins.{content_status, leads_on, refuses_range, most_content, LeadsTo, LeadsNowhere, GoesOn, IsOtherStatus, IsGoodHead, KeepsLimit, Fits, IsOtherPart, MissesSize, TellsWhole, BeginsContent, BeginsRedirect, FrontBroke, ComesToBroke, HeadBroke, IsOfWire}
 use Rattle.dm_head.specs.declared.framing.Framed.{Framed}
 use Rattle.dm_head.specs.declared.framing.Framed.TheVariants as framed
 use Rattle.dm_head.specs.Laws.{Outcome, Content, Redirect, Broke, Ninth, IsOutcome, OneFraming, OneOutcome, OneCause, BrokeAlone}

@@ -15,7 +15,7 @@ use Rattle.dm_edge.specs.declared.wanted.Wanted.TheVariants.{Whole, Part}
 use Rattle.dm_edge.specs.Fields.{NameAndValue, values_of}
 use Rattle.dm_edge.specs.Metadata.{HasStrong}
 use Rattle.dm_edge.specs.Part.{NamesPart, IsAskedPart, part_size, FitsSize, told_whole}
-use Rattle.dm_edge.specs.Reply.{most_content, KeepsLimit, Fits, IsFittingPart, TellsWhole, told_total}
+use Rattle.dm_edge.specs.Begins.{most_content, KeepsLimit, Fits, IsFittingPart, TellsWhole, told_total}
 use Rattle.dm_head.specs.declared.part.Extent.{Extent}
 use Rattle.dm_head.specs.Fit.{IsPlace, IsExtent, IsWithinLimit}
 

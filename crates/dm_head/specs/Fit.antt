@@ -7,7 +7,7 @@ use Rattle.dm_edge.specs.declared.wanted.Wanted.{Wanted}
 use Rattle.dm_edge.specs.declared.wanted.Wanted.TheVariants.{Whole, Part}
 use Rattle.dm_edge.specs.Fields.{NameAndValue}
 use Rattle.dm_edge.specs.Part.{IsAskedPart}
-use Rattle.dm_edge.specs.Reply.{most_content, told_total, Fits, IsOtherPart, MissesSize, TellsWhole}
+use Rattle.dm_edge.specs.Begins.{most_content, told_total, Fits, IsOtherPart, MissesSize, TellsWhole}
 use Rattle.dm_head.specs.declared.part.Extent.{Extent}
 use Rattle.dm_head.specs.declared.part.Fit.{Fit}
 use Rattle.dm_head.specs.declared.part.Fit.TheVariants as fit

@@ -6,7 +6,7 @@ use Rattle.dm_edge.specs.declared.framing.Framing.{Framing}
 use Rattle.dm_edge.specs.declared.wanted.Wanted.{Wanted}
 use Rattle.dm_edge.specs.Fields.{NameAndValue, FramedBy}
 use Rattle.dm_edge.specs.Head.{BeginsWith, BeginsFinal, ComesTo, HasHead, HasNinthInterim}
-use Rattle.dm_edge.specs.Reply.{BeginsContent, BeginsRedirect, ComesToBroke, HeadBroke, IsOfWire}
+use Rattle.dm_edge.specs.Begins.{BeginsContent, BeginsRedirect, ComesToBroke, HeadBroke, IsOfWire}
 
 -- what a stream's head can be: one with the wanted content, one of a redirect, none for this cause, or one interim head too many
 pub data Outcome : Type 0 where

@@ -3,6 +3,5 @@ pub mod Laws
 pub mod Lines
 pub mod Look
 pub mod Metadata
-pub mod Modified
 pub mod Values
 pub mod Whole

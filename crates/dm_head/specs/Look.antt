@@ -6,7 +6,7 @@ use Rattle.httparse.specs.Grammar.{ResponseHead, HasNoResponse, MayBecomeRespons
 use Rattle.dm_edge.specs.declared.framing.Framing.{Framing}
 use Rattle.dm_edge.specs.Fields.{fields_of}
 use Rattle.dm_edge.specs.Head.{HasManyLines, BeginsFinal, PassesOne}
-use Rattle.dm_edge.specs.Reply.{content_status, LeadsTo, IsGoodHead, KeepsLimit, Fits, FrontBroke}
+use Rattle.dm_edge.specs.Begins.{content_status, LeadsTo, IsGoodHead, KeepsLimit, Fits, FrontBroke}
 use Rattle.dm_edge.specs.declared.wanted.Wanted.{Wanted}
 use Rattle.dm_head.specs.Fit.{IsExtent, IsWithinLimit}
 use Rattle.dm_head.specs.declared.part.Extent.{Extent}

@@ -3,9 +3,8 @@ use Rattle.std.specs.Prelude.{◌≡◌, ◌≢◌, ◌↔◌, ℕ, ◌≤◌, f
 use Rattle.httparse.specs.declared.spans.Span.{Span}
 use Rattle.httparse.specs.Spans.{IsWithin, span_bytes}
 use Rattle.dm_tag.specs.Tag.{IsTag}
-use Rattle.dm_edge.specs.Fields.{NameAndValue, values_of, only_within}
-use Rattle.dm_edge.specs.Metadata.{most_tag, HasStrong, TakesRanges}
-use Rattle.dm_head.specs.Modified.{most_modified}
+use Rattle.dm_edge.specs.Fields.{NameAndValue, values_of}
+use Rattle.dm_edge.specs.Metadata.{most_tag, HasStrong, modified_of, TakesRanges}
 use Rattle.dm_head.specs.declared.metadata.Metadata.{Metadata}
 
 -- the span covers the strong tag, or there is none
@@ -22,10 +21,6 @@ IsKeptTag front span None = IsTag (span_bytes front span) false (span_bytes fron
 abbrev pub CoversOnly : List ℕ → List (List ℕ) → Option Span → Type 0
 CoversOnly front values (Some span) = IsWithin (length front) span × (values ≡ span_bytes front span ∷ [])
 CoversOnly front values None = (value : List ℕ) → values ≢ value ∷ []
-
--- the value of Last-Modified that is kept: where exactly one such field stands, within its limit, and else nothing (RFC 9110, section 8.8.2)
-abbrev pub modified_of : List NameAndValue → List ℕ
-modified_of fields = only_within most_modified (values_of (codes "last-modified") fields)
 
 -- the span covers the Last-Modified that is kept
 pub record CoversModified (front : List ℕ) (fields : List NameAndValue) (modified : Span) : Type 0 where

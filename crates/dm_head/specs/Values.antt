@@ -5,7 +5,7 @@ use Rattle.httparse.specs.declared.spans.Span.{Span}
 use Rattle.httparse.specs.Spans.{IsWithin, span_bytes}
 use Rattle.dm_tag.specs.Length.{IsLength}
 use Rattle.dm_edge.specs.Fields.{NameAndValue, has_name}
-use Rattle.dm_head.specs.Modified.{most_modified}
+use Rattle.dm_edge.specs.Metadata.{most_modified}
 use Rattle.dm_head.specs.declared.fields.Values.{Values}
 use Rattle.dm_head.specs.declared.fields.Values.TheVariants as found
 use Rattle.dm_head.specs.declared.lengths.ToldLength.{ToldLength}

@@ -8,7 +8,7 @@ use Rattle.dm_edge.specs.declared.framing.Framing.{Framing}
 use Rattle.dm_edge.specs.declared.framing.Framing.TheVariants as frame
 use Rattle.dm_edge.specs.Fields.{NameAndValue, fields_of, is_plain, FramedBy, IsUnframeable}
 use Rattle.dm_edge.specs.Head.{BeginsWith, is_interim}
-use Rattle.dm_edge.specs.Reply.{content_status, leads_on, refuses_range}
+use Rattle.dm_edge.specs.Begins.{content_status, leads_on, refuses_range}
 use Rattle.dm_edge.specs.declared.wanted.Wanted.{Wanted}
 use Rattle.dm_head.specs.declared.framing.Framed.{Framed}
 use Rattle.dm_head.specs.declared.framing.Framed.TheVariants as framed

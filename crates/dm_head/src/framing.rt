@@ -3,7 +3,7 @@ ghost use Rattle.std.specs.Prelude.{◌≡◌, ◌&&◌, ◌==◌, ◌<◌, All,
 ghost use Rattle.std.specs.Str.{str_eq_ignore_ascii_case};
 ghost use Rattle.httparse.specs.Spans.{IsHeaderWithin, header_bytes};
 ghost use Rattle.dm_edge.specs.Fields.{FramedBy, IsUnframeable};
-ghost use Rattle.dm_edge.specs.Reply.{KeepsLimit, most_content};
+ghost use Rattle.dm_edge.specs.Begins.{KeepsLimit, most_content};
 ghost use Rattle.dm_edge.specs.declared.framing.Framing.TheVariants.{Counted};
 ghost use Rattle.dm_head.specs.Whole.{IsFramed, framing_by};
 

@@ -1,11 +1,10 @@
 //! What a head says of its content beside the framing (RFC 9110, sections 8.8 and 14.3; RFC 6266).
 ghost use Rattle.std.specs.Prelude.{◌≡◌, ◌↔◌, ◌≤◌, All, IsTrue, codes, false, length, map};
 ghost use Rattle.httparse.specs.Spans.{IsHeaderWithin, IsWithin, header_bytes, span_bytes};
-ghost use Rattle.dm_edge.specs.Fields.{only_within, values_of as all_values};
+ghost use Rattle.dm_edge.specs.Fields.{values_of as all_values};
 ghost use Rattle.dm_tag.specs.Tag.{IsTag};
-ghost use Rattle.dm_edge.specs.Metadata.{most_tag, TakesRanges, NamesRanges};
+ghost use Rattle.dm_edge.specs.Metadata.{most_tag, most_modified, only_within, TakesRanges, NamesRanges};
 ghost use Rattle.dm_head.specs.Metadata.{IsMetadata, CoversStrong, CoversOnly, IsKeptTag};
-ghost use Rattle.dm_head.specs.Modified.{most_modified};
 ghost use Rattle.dm_head.specs.Values.{kept};
 
 use crate::fields::{Values, is_named, values_of};

@@ -5,7 +5,7 @@ ghost use Rattle.dm_tag.specs.Range.{IsContentRange};
 ghost use Rattle.dm_edge.specs.Fields.{NameAndValue};
 ghost use Rattle.dm_edge.specs.Metadata.{HasStrong};
 ghost use Rattle.dm_edge.specs.Part.{AgreesWith, FitsSize, IsAskedPart, NamesPart, part_size, told_whole};
-ghost use Rattle.dm_edge.specs.Reply.{most_content, told_total};
+ghost use Rattle.dm_edge.specs.Begins.{most_content, told_total};
 ghost use Rattle.dm_edge.specs.declared.wanted.Wanted.TheVariants.{Part, Whole};
 ghost use Rattle.dm_head.specs.Fit.{IsFit, IsPlace, RangePart};
 

@@ -13,7 +13,8 @@ use Rattle.dm_edge.specs.Wire.{Told, stream_of}
 use Rattle.dm_edge.specs.declared.framing.Framing.TheVariants as framing
 use Rattle.httparse.specs.Grammar.{ResponseHead}
 use Rattle.dm_edge.specs.declared.wanted.Wanted.{Wanted}
-use Rattle.dm_edge.specs.Reply.{BeginsContent, IsFramedWhole, IsFramedFront, IsFramedShort, IsFramedBadly, IsFramedOver, most_content}
+use Rattle.dm_edge.specs.Begins.{BeginsContent, most_content}
+use Rattle.dm_edge.specs.Reply.{IsFramedWhole, IsFramedFront, IsFramedShort, IsFramedBadly, IsFramedOver}
 use Rattle.dm_reply.specs.declared.body.Body.TheVariants as body
 use Rattle.dm_reply.specs.Ahead.{Grows, Stays}
 use Rattle.dm_reply.specs.Content.{HasFramed}

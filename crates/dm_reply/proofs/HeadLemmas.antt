@@ -22,14 +22,14 @@ use Rattle.dm_edge.specs.declared.framing.Framing.TheVariants as framing
 use Rattle.dm_edge.specs.declared.wanted.Wanted.{Wanted}
 use Rattle.dm_edge.specs.declared.wanted.Wanted.TheVariants.{Whole, Part}
 use Rattle.dm_edge.specs.Part.{part_size}
-use Rattle.dm_edge.specs.Reply.{content_status, BeginsContent, BeginsRedirect, IsFramedFront, FrontBroke, HeadBroke, IsOfWire}
+use Rattle.dm_edge.specs.Begins.{content_status, BeginsContent, BeginsRedirect, FrontBroke, HeadBroke, IsOfWire}
+use Rattle.dm_edge.specs.Reply.{IsFramedFront}
 use Rattle.dm_head.specs.declared.part.Extent.{Extent}
 use Rattle.dm_head.specs.Fit.{IsExtent, IsWithinLimit}
-use Rattle.dm_edge.specs.Fields.{NameAndValue, values_of, fields_of, only_within}
-use Rattle.dm_edge.specs.Metadata.{most_tag, IsStrongTag, IsOnlyValue, TakesRanges}
+use Rattle.dm_edge.specs.Fields.{NameAndValue, values_of, fields_of}
+use Rattle.dm_edge.specs.Metadata.{most_tag, most_modified, only_within, modified_of, IsStrongTag, IsOnlyValue, TakesRanges}
 use Rattle.dm_head.specs.declared.metadata.Metadata.{Metadata}
-use Rattle.dm_head.specs.Metadata.{CoversStrong, CoversOnly, IsMetadata, modified_of}
-use Rattle.dm_head.specs.Modified.{most_modified}
+use Rattle.dm_head.specs.Metadata.{CoversStrong, CoversOnly, IsMetadata}
 use Rattle.dm_head.specs.Look.{FindsInterim, FindsContent, FindsRedirect, IsOpen}
 use Rattle.dm_head.proofs.PassLemmas.{passes_more, comes_more, has_more, ninth_more}
 use Rattle.dm_reply.specs.declared.body.Body.{Body}

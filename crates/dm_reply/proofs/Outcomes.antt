@@ -14,8 +14,9 @@ use Rattle.dm_edge.specs.declared.wanted.Wanted.{Wanted}
 use Rattle.dm_edge.specs.declared.wanted.Wanted.TheVariants as asks
 use Rattle.dm_edge.specs.Fields.{fields_of}
 use Rattle.dm_edge.specs.Part.{part_size}
-use Rattle.dm_edge.specs.Reply.{BeginsContent, BeginsRedirect, IsFramedWhole, IsFramedFront, IsFramedShort, IsFramedBadly, IsFramedOver, HasPartSize, HasFramedEnd, IsAllOf, IsShortOf, IsBadOf, IsOverOf, IsWhole, EndsWhole, EndsShort, KeepsLimit, most_content, HeadBroke, ContentBroke, IsOfWire}
-use Rattle.dm_edge.specs.Reply.{Brings as BringsFramed}
+use Rattle.dm_edge.specs.Begins.{BeginsContent, BeginsRedirect, KeepsLimit, most_content, HeadBroke, IsOfWire}
+use Rattle.dm_edge.specs.Reply.{IsFramedWhole, IsFramedFront, IsFramedShort, IsFramedBadly, IsFramedOver, HasPartSize, HasFramedEnd, IsWholeBehind, IsShortBehind, IsBadBehind, IsOverBehind, IsWhole, EndsWhole, EndsShort, ContentBroke}
+use Rattle.dm_edge.specs.Reply.{BringsFramed}
 use Rattle.dm_head.specs.Laws.{Content, Redirect, Broke, Ninth}
 use Rattle.dm_head.proofs.Outcomes.{one_outcome}
 use Rattle.dm_head.proofs.PartLemmas.{one_part, keeps_limit}
@@ -303,10 +304,10 @@ one_front_at framing.ToEnd rest a b x y size =
 
 -- what is wanted ends so behind this head
 abbrev EndsSo : Wanted → ResponseHead → List ℕ → Ending → Type 0
-EndsSo wanted head stream (Whole content) = IsAllOf wanted head stream content
-EndsSo wanted head stream (Short content told) = IsShortOf wanted head stream content told
-EndsSo wanted head stream (BadlyChunked content) = IsBadOf wanted head stream content
-EndsSo wanted head stream (Overfull content) = IsOverOf wanted head stream content
+EndsSo wanted head stream (Whole content) = IsWholeBehind wanted head stream content
+EndsSo wanted head stream (Short content told) = IsShortBehind wanted head stream content told
+EndsSo wanted head stream (BadlyChunked content) = IsBadBehind wanted head stream content
+EndsSo wanted head stream (Overfull content) = IsOverBehind wanted head stream content
 
 record EndsBehind (wanted : Wanted) (stream : List ℕ) (ending : Ending) : Type 0 where
   head : ResponseHead
@@ -429,7 +430,7 @@ one_ending wanted stream a b is other =
 
 -- ---- what is whole is nothing else
 
-head_of_all : (wanted : Wanted) (head : ResponseHead) (stream content : List ℕ) → IsAllOf wanted head stream content → HasFramedHead wanted head stream
+head_of_all : (wanted : Wanted) (head : ResponseHead) (stream content : List ℕ) → IsWholeBehind wanted head stream content → HasFramedHead wanted head stream
 head_of_all asks.Whole head stream content all = record { framing = all.framing; rest = all.rest; begins = all.begins }
 head_of_all (asks.Part first last tag known) head stream content all =
     record { framing = all.front.framing; rest = all.front.bytes ++ all.front.after; begins = all.front.begins }

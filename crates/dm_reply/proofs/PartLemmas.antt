@@ -9,7 +9,8 @@ use Rattle.dm_edge.specs.declared.fault.WireFault.{WireFault}
 use Rattle.dm_edge.specs.declared.wanted.Wanted.{Wanted}
 use Rattle.dm_edge.specs.declared.wanted.Wanted.TheVariants.{Whole, Part}
 use Rattle.dm_edge.specs.Wire.{Told, stream_of}
-use Rattle.dm_edge.specs.Reply.{FramedBroke, BrokeBy, ContentBroke, HasSize, HasFramedEnd, IsWhole, IsShort, IsOfWire, most_content}
+use Rattle.dm_edge.specs.Begins.{IsOfWire, most_content}
+use Rattle.dm_edge.specs.Reply.{FramedBroke, BrokeBy, ContentBroke, HasSize, HasFramedEnd, IsWhole, IsShort}
 use Rattle.dm_reply.specs.declared.got.Got.{Got}
 use Rattle.dm_reply.specs.declared.got.Got.TheVariants as got
 use Rattle.dm_reply.specs.Content.{Reading, Reader, HasFramed, HasPartOf, HasRead, ContentSays}

@@ -7,7 +7,8 @@ use Rattle.dm_edge.specs.declared.fault.WireFault.TheVariants as wire
 use Rattle.dm_edge.specs.declared.framing.Framing.TheVariants as framing
 use Rattle.httparse.specs.Grammar.{ResponseHead}
 use Rattle.dm_edge.specs.declared.wanted.Wanted.{Wanted}
-use Rattle.dm_edge.specs.Reply.{BeginsContent, IsFramedWhole, IsFramedFront, IsFramedShort, IsFramedOver, FramedBroke, most_content}
+use Rattle.dm_edge.specs.Begins.{BeginsContent, most_content}
+use Rattle.dm_edge.specs.Reply.{IsFramedWhole, IsFramedFront, IsFramedShort, IsFramedOver, FramedBroke}
 use Rattle.dm_policy.specs.declared.cause.Cause.{Cause}
 use Rattle.dm_reply.specs.declared.got.Got.{Got}
 use Rattle.dm_reply.specs.declared.got.Got.TheVariants as got

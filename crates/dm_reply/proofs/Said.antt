@@ -10,7 +10,7 @@ use Rattle.dm_edge.specs.Fair.{ask_of, first_of, key_of, HasTag, SaysContent, Is
 use Rattle.dm_edge.specs.Fields.{fields_of}
 use Rattle.dm_edge.specs.Metadata.{IsStrongTag}
 use Rattle.dm_edge.specs.Reply.{IsFramedFront, IsFrontOfContent}
-use Rattle.dm_edge.specs.Wire.{Asked, Told, stream_of}
+use Rattle.dm_edge.specs.Wire.{Purpose, Told, stream_of}
 use Rattle.dm_reply.specs.Content.{Reader, HasRead, IsSized, framing_of}
 use Rattle.dm_reply.proofs.StreamLemmas.{content_more, front_more}
 
@@ -29,10 +29,10 @@ front_of (Part first last tag known) head stream content size sized front = reco
 
 -- Where the request for this was sent, the wire is honest and this content was read of it, each of its bytes is said at its place, under the key of the
 -- head that was read.
-pub said_by : {tells : Type 0} {says : Address → Key → ℕ → ℕ → Type 0} (asked : Asked) (told : Told) (wanted : Wanted) (reader : Reader) (content : List ℕ)
-    (tag : Option (List ℕ)) → IsHonest tells says asked told → told.sent ≡ request_of asked.address (ask_of wanted)
+pub said_by : {tells : Type 0} {says : Address → Key → ℕ → ℕ → Type 0} (purpose : Purpose) (told : Told) (wanted : Wanted) (reader : Reader) (content : List ℕ)
+    (tag : Option (List ℕ)) → IsHonest tells says purpose told → told.sent ≡ request_of purpose.address (ask_of wanted)
     → (read : HasRead wanted told.given reader content) → IsStrongTag (fields_of read.head) tag
-    → SaysContent says asked.address (key_of asked tag) (first_of wanted) content
+    → SaysContent says purpose.address (key_of purpose tag) (first_of wanted) content
 said_by asked told wanted reader content tag (inl all) sent read tag_is = record { each = λ place byte here. all _ _ _ _ }
 said_by asked told wanted reader content tag (inr fair) sent read tag_is =
     let head : HasTag wanted (stream_of told) tag = record {

@@ -5,7 +5,8 @@ use Rattle.httparse.specs.Grammar.{ResponseHead}
 use Rattle.dm_edge.specs.Wire.{Told, stream_of}
 use Rattle.dm_edge.specs.declared.framing.Framing.{Framing}
 use Rattle.dm_edge.specs.declared.wanted.Wanted.{Wanted}
-use Rattle.dm_edge.specs.Reply.{BeginsContent, IsFramedFront}
+use Rattle.dm_edge.specs.Begins.{BeginsContent}
+use Rattle.dm_edge.specs.Reply.{IsFramedFront}
 use Rattle.dm_head.proofs.PassLemmas.{has_more}
 
 pub content_more : {wanted : Wanted} {stream rest : List ℕ} {head : ResponseHead} {framing : Framing} → BeginsContent wanted stream head framing rest

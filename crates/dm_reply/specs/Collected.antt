@@ -4,7 +4,8 @@ use Rattle.httparse.specs.Grammar.{ResponseHead}
 use Rattle.dm_policy.specs.declared.cause.Cause.{Cause}
 use Rattle.dm_policy.specs.declared.cause.Cause.TheVariants as cause
 use Rattle.dm_edge.specs.declared.wanted.Wanted.{Wanted}
-use Rattle.dm_edge.specs.Reply.{BeginsRedirect, HeadBroke, ContentBroke}
+use Rattle.dm_edge.specs.Begins.{BeginsRedirect, HeadBroke}
+use Rattle.dm_edge.specs.Reply.{ContentBroke}
 use Rattle.dm_reply.specs.declared.head.HeadFault.{HeadFault}
 use Rattle.dm_reply.specs.declared.head.HeadFault.TheVariants as fault
 

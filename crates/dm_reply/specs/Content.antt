@@ -11,13 +11,12 @@ use Rattle.dm_edge.specs.declared.framing.Framing.TheVariants as framing
 use Rattle.dm_edge.specs.declared.wanted.Wanted.{Wanted}
 use Rattle.dm_edge.specs.declared.wanted.Wanted.TheVariants.{Whole, Part}
 use Rattle.dm_edge.specs.Part.{IsAskedPart, part_size}
-use Rattle.dm_edge.specs.Reply.{BeginsContent, BeginsRedirect, IsFramedFront, IsWhole, HeadBroke, ContentBroke, most_content}
+use Rattle.dm_edge.specs.Begins.{BeginsContent, BeginsRedirect, HeadBroke, most_content}
+use Rattle.dm_edge.specs.Reply.{IsFramedFront, IsWhole, ContentBroke}
 use Rattle.dm_head.specs.declared.part.Extent.{Extent}
 use Rattle.dm_head.specs.Fit.{IsExtent, IsWithinLimit}
 use Rattle.dm_edge.specs.Fields.{NameAndValue, values_of, fields_of}
-use Rattle.dm_edge.specs.Metadata.{most_tag, IsStrongTag, IsOnlyValue, TakesRanges}
-use Rattle.dm_head.specs.Metadata.{modified_of}
-use Rattle.dm_head.specs.Modified.{most_modified}
+use Rattle.dm_edge.specs.Metadata.{most_tag, most_modified, modified_of, IsStrongTag, IsOnlyValue, TakesRanges}
 use Rattle.dm_reply.specs.declared.got.Got.{Got}
 use Rattle.dm_reply.specs.declared.got.Got.TheVariants as got
 use Rattle.dm_reply.specs.declared.head.Head.{Head}

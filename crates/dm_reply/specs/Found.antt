@@ -10,14 +10,13 @@ use Rattle.dm_edge.specs.declared.framing.Framing.{Framing}
 use Rattle.dm_edge.specs.declared.framing.Framing.TheVariants as framing
 use Rattle.dm_edge.specs.Head.{Passes}
 use Rattle.dm_edge.specs.declared.wanted.Wanted.{Wanted}
-use Rattle.dm_edge.specs.Reply.{FrontBroke, IsOfWire}
+use Rattle.dm_edge.specs.Begins.{FrontBroke, IsOfWire}
 use Rattle.dm_head.specs.declared.part.Extent.{Extent}
 use Rattle.dm_reply.specs.Content.{Reader, extent_of, no_extent, size_told}
 use Rattle.dm_reply.specs.Steps.{going}
 use Rattle.dm_reply.specs.declared.body.Body.{Body}
 use Rattle.dm_reply.specs.declared.body.Body.TheVariants as body
-use Rattle.dm_edge.specs.Metadata.{most_tag}
-use Rattle.dm_head.specs.Modified.{most_modified}
+use Rattle.dm_edge.specs.Metadata.{most_tag, most_modified}
 use Rattle.dm_head.specs.declared.metadata.Metadata.{Metadata}
 use Rattle.dm_reply.specs.declared.head.Head.{Head}
 use Rattle.dm_reply.specs.declared.head.HeadFault.{HeadFault}

@@ -4,7 +4,8 @@ use Rattle.httparse.specs.Grammar.{ResponseHead}
 use Rattle.dm_policy.specs.declared.cause.Cause.{Cause}
 use Rattle.dm_policy.specs.declared.cause.Cause.TheVariants as cause
 use Rattle.dm_edge.specs.declared.wanted.Wanted.{Wanted}
-use Rattle.dm_edge.specs.Reply.{BeginsRedirect, IsWhole, IsShort, IsBadlyChunked, IsOverfull, HeadBroke, ContentBroke, IsOfWire}
+use Rattle.dm_edge.specs.Begins.{BeginsRedirect, HeadBroke, IsOfWire}
+use Rattle.dm_edge.specs.Reply.{IsWhole, IsShort, IsBadlyChunked, IsOverfull, ContentBroke}
 
 -- how a content ends: whole, short of what was told, where no chunk goes on, or where one byte too many comes
 pub data Ending : Type 0 where

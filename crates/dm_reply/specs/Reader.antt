@@ -1,6 +1,6 @@
 -- A reader as contracts see it, by its fields.
 use Rattle.std.specs.Prelude.{◌≤◌, IfSome}
-use Rattle.dm_edge.specs.Reply.{most_content}
+use Rattle.dm_edge.specs.Begins.{most_content}
 use Rattle.dm_reply.specs.Content.{Reader}
 use Rattle.dm_reply.specs.Steps.{most_of}
 use Rattle.dm_reply.specs.declared.reader.ReplyReader.TheInside.{Inside}

@@ -7,7 +7,8 @@ use Rattle.dm_edge.specs.declared.fault.WireFault.TheVariants as wire
 use Rattle.dm_edge.specs.Wire.{Told, stream_of}
 use Rattle.httparse.specs.Grammar.{ResponseHead}
 use Rattle.dm_edge.specs.declared.wanted.Wanted.{Wanted}
-use Rattle.dm_edge.specs.Reply.{IsFramedWhole, FramedBroke, most_content}
+use Rattle.dm_edge.specs.Begins.{most_content}
+use Rattle.dm_edge.specs.Reply.{IsFramedWhole, FramedBroke}
 use Rattle.dm_reply.specs.declared.body.Body.{Body}
 use Rattle.dm_reply.specs.declared.body.Body.TheVariants as body
 use Rattle.dm_reply.specs.declared.head.HeadFault.{HeadFault}

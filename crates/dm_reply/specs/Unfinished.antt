@@ -8,7 +8,8 @@ use Rattle.dm_edge.specs.declared.framing.Framing.TheVariants as framing
 use Rattle.dm_edge.specs.Head.{ComesTo}
 use Rattle.dm_edge.specs.declared.wanted.Wanted.{Wanted}
 use Rattle.dm_edge.specs.declared.wanted.Wanted.TheVariants.{Whole, Part}
-use Rattle.dm_edge.specs.Reply.{BeginsContent, Brings, HasSize, IsOfWire}
+use Rattle.dm_edge.specs.Begins.{BeginsContent, IsOfWire}
+use Rattle.dm_edge.specs.Reply.{BringsFramed, HasSize}
 use Rattle.dm_head.specs.Look.{IsOpen}
 use Rattle.dm_reply.specs.declared.got.Got.{Got}
 use Rattle.dm_reply.specs.declared.head.HeadFault.{HeadFault}
@@ -25,7 +26,7 @@ pub record IsFramedUnfinished (wanted : Wanted) (head : ResponseHead) (given con
   pub framing : Framing
   pub bytes : List ℕ
   pub begins : BeginsContent wanted given head framing bytes
-  pub brings : Brings framing bytes content
+  pub brings : BringsFramed framing bytes content
   pub lacks : Lacks framing content
 
 -- and the part that is wanted lacks bytes

@@ -97,7 +97,7 @@ impl Ahead {
         ensures count { MatchResult result (λ n. (length self.new ≡ length self.old + n) × (length self.new ≤ most_head)) (λ _. self.new ≡ self.old) }
         ensures told { W.tells → MatchResult result (Grows (W.told wire.old) (W.told wire.new) self.old self.new) (λ _. Stays (W.told wire.old) (W.told wire.new)) }
         ensures sent { W.tells → (W.told wire.new).sent ≡ (W.told wire.old).sent }
-        ensures stays { (W.asked wire.new ≡ W.asked wire.old) × (W.origin wire.new ≡ W.origin wire.old) }
+        ensures stays { (W.purpose wire.new ≡ W.purpose wire.old) × (W.origin wire.new ≡ W.origin wire.old) }
         ensures cause { HasCause wire_kind (W.faults wire.old) (W.faults wire.new) result }
     {
         self.end = move_down(&mut self.buffer, self.start, self.end);
@@ -112,7 +112,7 @@ impl Ahead {
         ensures count { IfOk result (λ n. length self.new ≡ n) }
         ensures told { W.tells → MatchResult result (Grows (W.told wire.old) (W.told wire.new) [] self.new) (λ _. Stays (W.told wire.old) (W.told wire.new)) }
         ensures sent { W.tells → (W.told wire.new).sent ≡ (W.told wire.old).sent }
-        ensures stays { (W.asked wire.new ≡ W.asked wire.old) × (W.origin wire.new ≡ W.origin wire.old) }
+        ensures stays { (W.purpose wire.new ≡ W.purpose wire.old) × (W.origin wire.new ≡ W.origin wire.old) }
         ensures cause { HasCause wire_kind (W.faults wire.old) (W.faults wire.new) result }
     {
         self.clear();
@@ -144,7 +144,7 @@ fn receive_behind<W: Wire>(wire: &mut W, buffer: &mut [u8], end: usize) -> Resul
     ensures told { W.tells → MatchResult result (λ n. Grows (W.told wire.old) (W.told wire.new) (take end buffer.old) (take (end + n) buffer.new) n) (λ _. Stays (W.told wire.old) (W.told wire.new)) }
     ensures size { IfOk result (λ n. length (take (end + n) buffer.new) ≡ end + n) }
     ensures sent { W.tells → (W.told wire.new).sent ≡ (W.told wire.old).sent }
-    ensures stays { (W.asked wire.new ≡ W.asked wire.old) × (W.origin wire.new ≡ W.origin wire.old) }
+    ensures stays { (W.purpose wire.new ≡ W.purpose wire.old) × (W.origin wire.new ≡ W.origin wire.old) }
     ensures cause { HasCause wire_kind (W.faults wire.old) (W.faults wire.new) result }
 {
     wire.receive(&mut buffer[end..])

@@ -3,7 +3,7 @@ ghost use Rattle.std.specs.Prelude.{◌≡◌, ◌<◌, ◌≤◌, ◌-◌, ℕ,
 ghost use Rattle.httparse.specs.Grammar.{ResponseHead};
 ghost use Rattle.dm_types.specs.Faults.{HasCause};
 ghost use Rattle.dm_edge.specs.declared.wanted.Wanted.{Wanted};
-ghost use Rattle.dm_edge.specs.Reply.{most_content};
+ghost use Rattle.dm_edge.specs.Begins.{most_content};
 ghost use Rattle.dm_reply.specs.Content.{HasFramed};
 ghost use Rattle.dm_reply.specs.Faults.{cause_kind};
 ghost use Rattle.dm_reply.specs.Unfinished.{LeavesFramed};
@@ -34,7 +34,7 @@ pub fn give_chunked<W: Wire>(
     ensures unfinished { W.tells → (wanted : Wanted) (head : ResponseHead) (content : List ℕ) → HasFramed wanted head (W.told wire.old).given (going ahead.old (body.Chunked chunks.old) given) content
         → LeavesFramed wanted head (W.told wire.new).given content result }
     ensures sent { W.tells → (W.told wire.new).sent ≡ (W.told wire.old).sent }
-    ensures stays { (W.asked wire.new ≡ W.asked wire.old) × (W.origin wire.new ≡ W.origin wire.old) }
+    ensures stays { (W.purpose wire.new ≡ W.purpose wire.old) × (W.origin wire.new ≡ W.origin wire.old) }
     ensures cause { HasCause cause_kind (W.faults wire.old) (W.faults wire.new) result }
 {
     let room = room_for(given, buf.len());

@@ -2,7 +2,7 @@
 ghost use Rattle.std.specs.Prelude.{◌≡◌, ◌≤◌, length, drop, IfOk, IfErr, IfSome};
 ghost use Rattle.std.specs.Option.{option_map};
 ghost use Rattle.httparse.specs.Spans.{IsWithin, span_bytes};
-ghost use Rattle.dm_edge.specs.Reply.{KeepsLimit, most_content};
+ghost use Rattle.dm_edge.specs.Begins.{KeepsLimit, most_content};
 ghost use Rattle.dm_reply.specs.Content.{extent_of};
 ghost use Rattle.dm_reply.specs.Found.{AreShort, AreWithin, HasTexts, IsShortHead, Starts, IsContentHead, IsRedirectHead};
 ghost use Rattle.dm_reply.specs.Steps.{most_of};

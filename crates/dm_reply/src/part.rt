@@ -1,6 +1,6 @@
 //! The part of a content: its bytes are the first of what is framed, and it has so many of them (RFC 9110, section 15.3.7).
 ghost use Rattle.std.specs.Prelude.{◌≡◌, ◌≤◌, IfSome, Some};
-ghost use Rattle.dm_edge.specs.Reply.{content_status as status_wanted, most_content};
+ghost use Rattle.dm_edge.specs.Begins.{content_status as status_wanted, most_content};
 ghost use Rattle.dm_head.specs.Fit.{IsWithinLimit};
 ghost use Rattle.dm_reply.specs.Content.{extent_of, size_told};
 ghost use Rattle.dm_reply.specs.Part.{part_answer as answer_of_part, part_cause as cause_of_part};

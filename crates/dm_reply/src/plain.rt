@@ -4,7 +4,7 @@ ghost use Rattle.httparse.specs.Grammar.{ResponseHead};
 ghost use Rattle.dm_types.specs.Faults.{HasCause};
 ghost use Rattle.dm_edge.specs.declared.wanted.Wanted.{Wanted};
 ghost use Rattle.dm_edge.specs.Faults.{wire_kind};
-ghost use Rattle.dm_edge.specs.Reply.{most_content};
+ghost use Rattle.dm_edge.specs.Begins.{most_content};
 ghost use Rattle.dm_reply.specs.Ahead.{Stays};
 ghost use Rattle.dm_reply.specs.Content.{HasFramed};
 ghost use Rattle.dm_reply.specs.Faults.{cause_kind};
@@ -37,7 +37,7 @@ pub fn give_counted<W: Wire>(
     ensures unfinished { W.tells → (wanted : Wanted) (head : ResponseHead) (content : List ℕ) → HasFramed wanted head (W.told wire.old).given (going ahead.old (body.Counted count) given) content
         → LeavesFramed wanted head (W.told wire.new).given content result }
     ensures sent { W.tells → (W.told wire.new).sent ≡ (W.told wire.old).sent }
-    ensures stays { (W.asked wire.new ≡ W.asked wire.old) × (W.origin wire.new ≡ W.origin wire.old) }
+    ensures stays { (W.purpose wire.new ≡ W.purpose wire.old) × (W.origin wire.new ≡ W.origin wire.old) }
     ensures cause { HasCause cause_kind (W.faults wire.old) (W.faults wire.new) result }
 {
     if given == count {
@@ -68,7 +68,7 @@ pub fn give_to_end<W: Wire>(
     ensures unfinished { W.tells → (wanted : Wanted) (head : ResponseHead) (content : List ℕ) → HasFramed wanted head (W.told wire.old).given (going ahead.old body.ToEnd given) content
         → LeavesFramed wanted head (W.told wire.new).given content result }
     ensures sent { W.tells → (W.told wire.new).sent ≡ (W.told wire.old).sent }
-    ensures stays { (W.asked wire.new ≡ W.asked wire.old) × (W.origin wire.new ≡ W.origin wire.old) }
+    ensures stays { (W.purpose wire.new ≡ W.purpose wire.old) × (W.origin wire.new ≡ W.origin wire.old) }
     ensures cause { HasCause cause_kind (W.faults wire.old) (W.faults wire.new) result }
 {
     if given == MOST_CONTENT {
@@ -89,7 +89,7 @@ fn end_full<W: Wire>(ahead: &mut Ahead, wire: &mut W) -> Result<Got, Cause>
     ensures unfinished { W.tells → (wanted : Wanted) (head : ResponseHead) (content : List ℕ) → HasFramed wanted head (W.told wire.old).given (going ahead.old body.ToEnd most_content) content
         → LeavesFramed wanted head (W.told wire.new).given content result }
     ensures sent { W.tells → (W.told wire.new).sent ≡ (W.told wire.old).sent }
-    ensures stays { (W.asked wire.new ≡ W.asked wire.old) × (W.origin wire.new ≡ W.origin wire.old) }
+    ensures stays { (W.purpose wire.new ≡ W.purpose wire.old) × (W.origin wire.new ≡ W.origin wire.old) }
     ensures cause { HasCause cause_kind (W.faults wire.old) (W.faults wire.new) result }
 {
     if !ahead.is_empty() {
@@ -114,7 +114,7 @@ pub fn next<W: Wire>(
     ensures told { W.tells → MatchResult result (Nexts (W.told wire.old) (W.told wire.new) ahead.old ahead.new buf.new) (λ _. Stays (W.told wire.old) (W.told wire.new)) }
     ensures in_place { IfErr result (λ _. ahead.old ≡ []) }
     ensures sent { W.tells → (W.told wire.new).sent ≡ (W.told wire.old).sent }
-    ensures stays { (W.asked wire.new ≡ W.asked wire.old) × (W.origin wire.new ≡ W.origin wire.old) }
+    ensures stays { (W.purpose wire.new ≡ W.purpose wire.old) × (W.origin wire.new ≡ W.origin wire.old) }
     ensures cause { HasCause wire_kind (W.faults wire.old) (W.faults wire.new) result }
 {
     if ahead.is_empty() {

@@ -3,7 +3,7 @@ ghost use Rattle.dm_types.specs.Faults.{HasCause, NoneFell};
 ghost use Rattle.httparse.specs.Grammar.{ResponseHead};
 ghost use Rattle.dm_edge.specs.declared.wanted.Wanted.{Wanted as Asked};
 ghost use Rattle.dm_edge.specs.Wire.{stream_of};
-ghost use Rattle.dm_edge.specs.Reply.{most_content};
+ghost use Rattle.dm_edge.specs.Begins.{most_content};
 ghost use Rattle.dm_reply.specs.Content.{unread, HasFramed, HasRead, HeadSays, HeadBreaks, IsPlainHead, ContentSays, Advances, extent_of, size_told};
 ghost use Rattle.dm_reply.specs.Unfinished.{LeavesContent, LeavesFramed, LeavesHead};
 ghost use Rattle.dm_reply.specs.Steps.{settled, settled_reader, least_of, FramedSays, IsSameReader, IsWithin, KeepsTo, most_of};
@@ -77,7 +77,7 @@ impl ReplyReader {
         ensures unfinished { W.tells → (W.told wire.old).given ≡ []
             → IfErr result (LeavesHead (W.told wire.new).given) }
         ensures sent { W.tells → (W.told wire.new).sent ≡ (W.told wire.old).sent }
-        ensures stays { (W.asked wire.new ≡ W.asked wire.old) × (W.origin wire.new ≡ W.origin wire.old) }
+        ensures stays { (W.purpose wire.new ≡ W.purpose wire.old) × (W.origin wire.new ≡ W.origin wire.old) }
         ensures cause { HasCause head_kind (W.faults wire.old) (W.faults wire.new) result }
     {
         match receive_head(alloc, &self.wanted, &mut self.ahead, wire) {
@@ -105,7 +105,7 @@ impl ReplyReader {
         ensures ends { IfErr result (λ cause. self.new.reading.broke ≡ Some cause) }
         ensures repeats { IfSome self.old.reading.broke (λ cause. (result ≡ Err cause) × (self.new ≡ self.old) × (W.told wire.new ≡ W.told wire.old)) }
         ensures sent { W.tells → (W.told wire.new).sent ≡ (W.told wire.old).sent }
-        ensures stays { (W.asked wire.new ≡ W.asked wire.old) × (W.origin wire.new ≡ W.origin wire.old) }
+        ensures stays { (W.purpose wire.new ≡ W.purpose wire.old) × (W.origin wire.new ≡ W.origin wire.old) }
         ensures later { NoneFell (W.faults wire.old) (W.faults wire.new) }
         ensures cause { self.old.reading.broke ≡ None → HasCause cause_kind (W.faults wire.old) (W.faults wire.new) result }
     {
@@ -127,7 +127,7 @@ impl ReplyReader {
         ensures unfinished { W.tells → (wanted : Asked) (content : List ℕ) → HasRead wanted (W.told wire.old).given self.old content
             → LeavesContent wanted (W.told wire.new).given content result }
         ensures sent { W.tells → (W.told wire.new).sent ≡ (W.told wire.old).sent }
-        ensures stays { (W.asked wire.new ≡ W.asked wire.old) × (W.origin wire.new ≡ W.origin wire.old) }
+        ensures stays { (W.purpose wire.new ≡ W.purpose wire.old) × (W.origin wire.new ≡ W.origin wire.old) }
         ensures cause { HasCause cause_kind (W.faults wire.old) (W.faults wire.new) result }
     {
         match self.size {
@@ -153,7 +153,7 @@ impl ReplyReader {
         ensures unfinished { W.tells → (wanted : Asked) (content : List ℕ) → HasRead wanted (W.told wire.old).given self.old content
             → LeavesContent wanted (W.told wire.new).given content result }
         ensures sent { W.tells → (W.told wire.new).sent ≡ (W.told wire.old).sent }
-        ensures stays { (W.asked wire.new ≡ W.asked wire.old) × (W.origin wire.new ≡ W.origin wire.old) }
+        ensures stays { (W.purpose wire.new ≡ W.purpose wire.old) × (W.origin wire.new ≡ W.origin wire.old) }
         ensures cause { HasCause cause_kind (W.faults wire.old) (W.faults wire.new) result }
     {
         let given = self.given;
@@ -177,7 +177,7 @@ impl ReplyReader {
         ensures unfinished { W.tells → (wanted : Asked) (head : ResponseHead) (content : List ℕ) → HasFramed wanted head (W.told wire.old).given self.old.reading content
             → LeavesFramed wanted head (W.told wire.new).given content result }
         ensures sent { W.tells → (W.told wire.new).sent ≡ (W.told wire.old).sent }
-        ensures stays { (W.asked wire.new ≡ W.asked wire.old) × (W.origin wire.new ≡ W.origin wire.old) }
+        ensures stays { (W.purpose wire.new ≡ W.purpose wire.old) × (W.origin wire.new ≡ W.origin wire.old) }
         ensures cause { HasCause cause_kind (W.faults wire.old) (W.faults wire.new) result }
     {
         match self.body {

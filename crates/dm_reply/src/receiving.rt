@@ -3,7 +3,7 @@ ghost use Rattle.std.specs.Prelude.{◌≡◌, ◌<◌, ◌≤◌, [], length, I
 ghost use Rattle.dm_types.specs.Faults.{HasCause};
 ghost use Rattle.dm_edge.specs.Wire.{stream_of};
 ghost use Rattle.dm_edge.specs.Head.{most_head};
-ghost use Rattle.dm_edge.specs.Reply.{most_content};
+ghost use Rattle.dm_edge.specs.Begins.{most_content};
 ghost use Rattle.dm_head.specs.Look.{IsOpen};
 ghost use Rattle.dm_reply.specs.Content.{HeadSays, HeadBreaks, IsPlainHead};
 ghost use Rattle.dm_reply.specs.Faults.{head_kind};
@@ -40,7 +40,7 @@ pub fn receive_head<W: Wire>(
     ensures broke { W.tells → (W.told wire.old).given ≡ [] → IfErr result (HeadBreaks wanted.now (stream_of (W.told wire.new))) }
     ensures unfinished { W.tells → (W.told wire.old).given ≡ [] → IfErr result (LeavesHead (W.told wire.new).given) }
     ensures sent { W.tells → (W.told wire.new).sent ≡ (W.told wire.old).sent }
-    ensures stays { (W.asked wire.new ≡ W.asked wire.old) × (W.origin wire.new ≡ W.origin wire.old) }
+    ensures stays { (W.purpose wire.new ≡ W.purpose wire.old) × (W.origin wire.new ≡ W.origin wire.old) }
     ensures cause { HasCause head_kind (W.faults wire.old) (W.faults wire.new) result }
 {
     let mut passed = 0;
@@ -82,7 +82,7 @@ fn receive_more<W: Wire>(ahead: &mut Ahead, wire: &mut W) -> Result<(), HeadFaul
     ensures grows { IfOk result (λ _. (length ahead.old < length ahead.new) × (length ahead.new ≤ most_head)) }
     ensures says { W.tells → (wanted : Asked) → MoreSays wanted (W.told wire.old) (W.told wire.new) ahead.old ahead.new result }
     ensures sent { W.tells → (W.told wire.new).sent ≡ (W.told wire.old).sent }
-    ensures stays { (W.asked wire.new ≡ W.asked wire.old) × (W.origin wire.new ≡ W.origin wire.old) }
+    ensures stays { (W.purpose wire.new ≡ W.purpose wire.old) × (W.origin wire.new ≡ W.origin wire.old) }
     ensures cause { HasCause head_kind (W.faults wire.old) (W.faults wire.new) result }
 {
     if ahead.bytes().len() == MOST_HEAD {

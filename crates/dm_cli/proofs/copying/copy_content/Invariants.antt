@@ -2,7 +2,7 @@ use Rattle.std.proofs.Common.{◌≡◌, ◌-◌, ◌<◌, ◌≤◌, [], length
 use Rattle.dm_types.specs.Faults.{NoneFell}
 use Rattle.dm_disk_model.specs.Disk.{now, Stands}
 use Rattle.dm_disk_model.specs.Names.{KeepsOthers}
-use Rattle.dm_edge.specs.Reply.{most_content}
+use Rattle.dm_edge.specs.Begins.{most_content}
 use Rattle.dm_reply.specs.Content.{HasRead}
 use Rattle.dm_edge.specs.declared.wanted.Wanted.TheVariants as asks
 use Rattle.dm_cli.specs.Copying.{CopiedSoFar}
@@ -21,7 +21,7 @@ invariant-loop-count g l =
       copied : D.tells → W.tells → HasRead asks.Whole (W.told l.initial.wire).given l.initial.reader [] → CopiedSoFar (W.told l.wire) l.reader (now (D.history l.disk)) l.part l.at;
       keeps : D.tells → KeepsOthers l.part (D.history l.initial.disk) (D.history l.disk);
       sent : W.tells → (W.told l.wire).sent ≡ (W.told l.initial.wire).sent;
-      stays : W.asked l.wire ≡ W.asked l.initial.wire;
+      stays : W.purpose l.wire ≡ W.purpose l.initial.wire;
       wire_later : NoneFell (W.faults l.initial.wire) (W.faults l.wire);
       disk_later : NoneFell (D.faults l.initial.disk) (D.faults l.disk);
     }

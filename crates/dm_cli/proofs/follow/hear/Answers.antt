@@ -11,7 +11,7 @@ returns-in-Err-clause-none g c tells fresh asked =
     let W = g.N.W.Wire in
     let tells_wire = g.met.N.Net.wires_tell tells in
     inr (record {
-      connection = closed_of (W.asked c.talk.new.wire) (W.told c.talk.new.wire);
+      connection = closed_of (W.purpose c.talk.new.wire) (W.told c.talk.new.wire);
       last = c.close-in-Err.ensures.closed tells;
       asked = c.talk.ensures.stays ∙ asked;
       sent = subst (λ (r : List ℕ). SentUntil (CutsNet (N.faults c.args.net.now) (N.faults c.close-in-Err.new.self)) r (W.told c.talk.new.wire).sent c.in-Err.cause) c.bytes.ensures

@@ -3,7 +3,7 @@ use Rattle.httparse.specs.Spans.{header_bytes}
 use Rattle.dm_edge.specs.declared.wanted.Wanted.{Wanted}
 use Rattle.dm_edge.specs.declared.wanted.Wanted.TheVariants.{Part}
 use Rattle.dm_edge.specs.Part.{IsAskedPart}
-use Rattle.dm_edge.specs.Reply.{IsOtherPart}
+use Rattle.dm_edge.specs.Begins.{IsOtherPart}
 use Rattle.dm_head.specs.Fit.{IsFit}
 use Rattle.dm_head.proofs.part.fit_of.Goals as goal
 

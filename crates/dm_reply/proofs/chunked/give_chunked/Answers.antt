@@ -2,7 +2,8 @@ use Rattle.std.proofs.Common.{◌≡◌, ◌≤◌, ◌+◌, List, ℕ, length, 
 use Rattle.dm_chunk.specs.declared.Step.TheVariants as steps
 use Rattle.dm_policy.specs.declared.cause.Cause.{Cause}
 use Rattle.dm_edge.specs.Wire.{stream_of}
-use Rattle.dm_edge.specs.Reply.{FramedBroke, most_content}
+use Rattle.dm_edge.specs.Begins.{most_content}
+use Rattle.dm_edge.specs.Reply.{FramedBroke}
 use Rattle.dm_reply.specs.declared.body.Body.TheVariants as body
 use Rattle.dm_reply.specs.Ahead.{Grows}
 use Rattle.dm_reply.specs.Content.{HasFramed}

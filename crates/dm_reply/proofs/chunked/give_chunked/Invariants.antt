@@ -13,7 +13,7 @@ invariant-loop-from g l = record {
   read : g.W.Wire.tells → (asked : Wanted) (head : ResponseHead) (content : List ℕ) → HasFramed asked head (g.W.Wire.told l.fn.wire).given (going l.fn.ahead (body.Chunked l.fn.chunks) l.fn.given) content
       → HasFramed asked head (g.W.Wire.told l.wire).given (going l.ahead (body.Chunked l.chunks) l.fn.given) content;
   sent : g.W.Wire.tells → (g.W.Wire.told l.wire).sent ≡ (g.W.Wire.told l.fn.wire).sent;
-  stays : (g.W.Wire.asked l.wire ≡ g.W.Wire.asked l.fn.wire) × (g.W.Wire.origin l.wire ≡ g.W.Wire.origin l.fn.wire);
+  stays : (g.W.Wire.purpose l.wire ≡ g.W.Wire.purpose l.fn.wire) × (g.W.Wire.origin l.wire ≡ g.W.Wire.origin l.fn.wire);
   later : NoneFell (g.W.Wire.faults l.fn.wire) (g.W.Wire.faults l.wire);
 }
 

@@ -1,5 +1,5 @@
 use Rattle.std.proofs.Common.{◌≡◌, ◌-◌, []}
-use Rattle.dm_edge.specs.Reply.{most_content}
+use Rattle.dm_edge.specs.Begins.{most_content}
 use Rattle.dm_reply.specs.Content.{HasRead}
 use Rattle.dm_reply.proofs.collecting.collected.Given as goal
 

@@ -1,7 +1,8 @@
 use Rattle.std.proofs.Common.{arith, refl, subst, sym}
 use Rattle.dm_policy.specs.declared.cause.Cause.{Cause}
 use Rattle.dm_edge.specs.Wire.{stream_of}
-use Rattle.dm_edge.specs.Reply.{FramedBroke, most_content}
+use Rattle.dm_edge.specs.Begins.{most_content}
+use Rattle.dm_edge.specs.Reply.{FramedBroke}
 use Rattle.dm_reply.proofs.PlainLemmas.{stopped, to_end_front, to_end_full, to_end_grown}
 use Rattle.dm_reply.proofs.plain.end_full.Goals as goal
 

@@ -1,5 +1,5 @@
 use Rattle.std.proofs.Common.{◌+◌, [], List, ◌++◌, ℕ, sym, subst, ◌∙◌, arith, IfOk}
-use Rattle.dm_edge.specs.Reply.{FrontBroke}
+use Rattle.dm_edge.specs.Begins.{FrontBroke}
 use Rattle.dm_head.specs.Look.{FindsInterim, FindsContent, FindsRedirect, IsOpen}
 use Rattle.dm_reply.specs.Found.{HasPassed, IsContentHead}
 use Rattle.dm_reply.proofs.HeadLemmas.{one_passed, more_passed, ninth_broke, refused_broke, more_broke, content_answer, redirect_answer, refused_cause, front_leaves, metadata_within, metadata_short, content_plain, redirect_plain, open_leaves}

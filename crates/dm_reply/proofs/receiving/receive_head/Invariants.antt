@@ -9,7 +9,7 @@ invariant-loop-size g l = record {
   few : l.passed ≤ most_interim;
   held : g.W.Wire.tells → (g.W.Wire.told l.fn.wire).given ≡ [] → HasPassed (g.W.Wire.told l.wire).given l.ahead l.passed;
   sent : g.W.Wire.tells → (g.W.Wire.told l.wire).sent ≡ (g.W.Wire.told l.fn.wire).sent;
-  stays : (g.W.Wire.asked l.wire ≡ g.W.Wire.asked l.fn.wire) × (g.W.Wire.origin l.wire ≡ g.W.Wire.origin l.fn.wire);
+  stays : (g.W.Wire.purpose l.wire ≡ g.W.Wire.purpose l.fn.wire) × (g.W.Wire.origin l.wire ≡ g.W.Wire.origin l.fn.wire);
   later : NoneFell (g.W.Wire.faults l.fn.wire) (g.W.Wire.faults l.wire);
 }
 

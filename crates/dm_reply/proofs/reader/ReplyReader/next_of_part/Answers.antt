@@ -1,7 +1,7 @@
 use Rattle.std.proofs.Common.{◌≡◌, ◌<◌, ◌≤◌, ℕ, List, ◌++◌, length, drop, Option, IfSome, sym, ap, ◌∙◌, subst, Result, Some, arith}
 use Rattle.std.proofs.lemmas.List.{length-take}
 use Rattle.dm_policy.specs.declared.cause.Cause.{Cause}
-use Rattle.dm_edge.specs.Reply.{most_content}
+use Rattle.dm_edge.specs.Begins.{most_content}
 use Rattle.dm_reply.specs.declared.got.Got.{Got}
 use Rattle.dm_reply.specs.Content.{Reader, ContentSays}
 use Rattle.dm_reply.specs.Part.{part_answer}
