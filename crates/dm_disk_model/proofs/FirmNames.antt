@@ -4,8 +4,7 @@ use Rattle.std.specs.Option.{option_map}
 use Rattle.std.proofs.lemmas.Option.{same_Some}
 use Rattle.dm_disk_model.specs.File.{File, FileLeaves}
 use Rattle.dm_disk_model.specs.Folder.{Names, Folder, Contents, FolderLeaves, NameLeaves, Change, Created, FileSteps, Creates, Changes, SyncsNames, EachPrefix, AreApart, IsSoundFolder, names_of, names_after, contents_of, after_change}
-use Rattle.dm_disk_model.specs.Firm.{HasFile, LeftOf}
-use Rattle.dm_disk_model.specs.Names.{IsAbsent}
+use Rattle.dm_disk_model.specs.Firm.{IsAbsent, HasFile, LeftOf}
 use Rattle.dm_disk_model.proofs.PendingNames.{each_now, each_more, each_synced, with_name_other}
 
 -- what holds of each prefix stays where neither the synced names nor the changes change
@@ -22,7 +21,7 @@ has_now folder name file has =
     ap (option_map (λ number. (folder.file number).bytes)) (named_now folder name file has) ∙ ap (λ (f : File). Some f.bytes) has.is
 
 -- whatever a crash leaves under the name is what it leaves of the file
-left_by : (files : ℕ → File) (number : ℕ) (file : File) (found : Option (List ℕ)) → files number ≡ file → NameLeaves files (Some number) found → LeftOf file found
+pub left_by : (files : ℕ → File) (number : ℕ) (file : File) (found : Option (List ℕ)) → files number ≡ file → NameLeaves files (Some number) found → LeftOf file found
 left_by files number file (Some bytes) is left = record { bytes = bytes; is = refl; left = subst (λ (f : File). FileLeaves f bytes) is left }
 left_by files number file None is left = absurd left
 
@@ -32,13 +31,13 @@ has_left folder name file contents has leaves =
     (subst (λ (found : Option ℕ). NameLeaves folder.file found (contents name)) (has.named leaves.survive) (leaves.each name))
 
 -- nothing is left under a name that has no file
+pub nothing_left : (files : ℕ → File) (found : Option (List ℕ)) → NameLeaves files None found → found ≡ None
+nothing_left files (Some bytes) left = absurd left
+nothing_left files None left = refl
+
 pub none_left : (folder : Folder) (name : List ℕ) (contents : Contents) → IsAbsent name folder → FolderLeaves folder contents → contents name ≡ None
 none_left folder name contents none leaves =
-    nothing (contents name) (subst (λ (found : Option ℕ). NameLeaves folder.file found (contents name)) (none leaves.survive) (leaves.each name))
-  where
-    nothing : (found : Option (List ℕ)) → NameLeaves folder.file None found → found ≡ None
-    nothing (Some bytes) left = absurd left
-    nothing None left = refl
+    nothing_left folder.file (contents name) (subst (λ (found : Option ℕ). NameLeaves folder.file found (contents name)) (none leaves.survive) (leaves.each name))
 
 -- the file takes a step
 pub record Stepped (folder : Folder) (name : List ℕ) (step : File → File → Type 0) (file : File) : Type 0 where

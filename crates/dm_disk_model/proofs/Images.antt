@@ -2,11 +2,11 @@
 use Rattle.std.proofs.Common.{◌≡◌, ◌≢◌, ◌↔◌, ℕ, ◌≤◌, inl, inr, List, length, take, Option, Some, None, Result, Ok, Err, refl, sym, ap, subst, arith}
 use Rattle.std.specs.Option.{option_map}
 use Rattle.std.proofs.lemmas.List.{take_all}
-use Rattle.dm_disk_model.specs.File.{File, FileLeaves}
+use Rattle.std.proofs.lemmas.Grind.{same_number_lists}
+use Rattle.dm_disk_model.specs.File.{File, FileLeaves, settled_file}
 use Rattle.dm_disk_model.specs.Folder.{Names, Folder, FolderLeaves, NameLeaves, FileSteps, Changes, Change, IsSoundFolder, names_of, names_after, contents_of, after_changes}
-use Rattle.dm_disk_model.specs.Disk.{DiskState, Image, MayLeave, IsSoundDisk, InArea, reading, folder_in}
+use Rattle.dm_disk_model.specs.Disk.{DiskState, Image, MayLeave, IsSoundDisk, InArea, Done, DoneWhole, reading, folder_in}
 use Rattle.dm_disk_model.specs.Laws.{OtherStays, OthersLeaveSame, other_area}
-use Rattle.dm_disk_model.specs.Disk.{Done}
 use Rattle.dm_disk_model.specs.declared.place.DiskFault.{DiskFault}
 use Rattle.dm_disk_model.specs.declared.place.Area.{Area}
 use Rattle.dm_disk_model.specs.declared.place.Area.TheVariants.{State, Files}
@@ -15,7 +15,13 @@ use Rattle.dm_disk_model.specs.declared.place.Area.TheVariants.{State, Files}
 pub file_as_read : (file : File) → file.synced ≤ length file.bytes → FileLeaves file file.bytes
 file_as_read file within = record { clean = λ i clean. refl; no_shorter = within; no_longer = omega arith }
 
-name_as_read : (files : ℕ → File) (found : Option ℕ) → ((number : ℕ) → (files number).synced ≤ length (files number).bytes) → NameLeaves files found (option_map (λ number. (files number).bytes) found)
+-- what a crash leaves of a settled file is what it holds
+pub settled_leaves : (bytes left : List ℕ) → FileLeaves (settled_file bytes) left → left ≡ bytes
+settled_leaves bytes left leaves =
+    same_number_lists left bytes (omega (arith, leaves.no_shorter, leaves.no_longer)) (λ k below. leaves.clean k (record { below = omega (arith, leaves.no_longer); untouched = tt }))
+
+-- what is found under a name, as it reads
+pub name_as_read : (files : ℕ → File) (found : Option ℕ) → ((number : ℕ) → (files number).synced ≤ length (files number).bytes) → NameLeaves files found (option_map (λ number. (files number).bytes) found)
 name_as_read files (Some number) within = file_as_read (files number) (within number)
 name_as_read files None within = tt
 
@@ -49,10 +55,9 @@ other_stays area step begun (Err fault) old new (inl stepped) = other_area_stays
 other_stays area step begun (Err fault) old new (inr same) = ap (folder_in (other_area area)) same
 
 -- the same of a call that changes nothing where it fails
-pub other_stays_whole : (area : Area) (step : Folder → Folder → Type 0) (result : Result (Unit {0}) DiskFault) (old new : DiskState) → Done (InArea area step) (λ before after. after ≡ before) result old new → OtherStays area old new
+pub other_stays_whole : (area : Area) (step : Folder → Folder → Type 0) (result : Result (Unit {0}) DiskFault) (old new : DiskState) → DoneWhole (InArea area step) result old new → OtherStays area old new
 other_stays_whole area step (Ok done) old new stepped = other_area_stays area step old new stepped
-other_stays_whole area step (Err fault) old new (inl same) = ap (folder_in (other_area area)) same
-other_stays_whole area step (Err fault) old new (inr same) = ap (folder_in (other_area area)) same
+other_stays_whole area step (Err fault) old new same = ap (folder_in (other_area area)) same
 
 -- A step of one file changes no other file, under whichever name that survives.
 other_files : (old new : Folder) (name : List ℕ) (step : File → File → Type 0) → (taken : FileSteps name step old new) → (survive : ℕ) (other : List ℕ) (found : Option (List ℕ))

@@ -1,44 +1,31 @@
 -- What is done at one place keeps the others, call by call and call after call.
-use Rattle.std.proofs.Common.{◌≡◌, ℕ, List, Result, inl, inr, refl, sym, ◌∙◌, subst, arith}
+use Rattle.std.proofs.Common.{ℕ, ◌≡◌, List, Result, refl, sym, ◌∙◌, subst}
 use Rattle.std.specs.Prelude.{◌≢◌}
-use Rattle.std.proofs.lemmas.Bool.{cases_lt}
 use Rattle.dm_disk_model.specs.declared.place.Area.{Area}
 use Rattle.dm_disk_model.specs.declared.place.Place.{Place}
 use Rattle.dm_disk_model.specs.declared.place.DiskFault.{DiskFault}
 use Rattle.dm_disk_model.specs.Disk.{DiskState, History, Next, now, ChangesOnly, IsSoundDisk, CreateStep, WriteStep, SyncStep, RemoveStep, SyncNamesStep}
-use Rattle.dm_disk_model.specs.Names.{NeverStands, Throughout, KeepsOthers}
+use Rattle.dm_disk_model.specs.Names.{NeverStands}
+use Rattle.dm_disk_model.specs.Moments.{KeepsOthers}
 use Rattle.dm_disk_model.proofs.Places.{create_others, write_others, sync_others, remove_others, names_reads}
-use Rattle.dm_disk_model.proofs.Naming.{absent_create, absent_write, absent_sync, absent_remove, absent_names_synced, throughout_start, throughout_next}
-
--- moments, one stretch after another
-pub throughout_join : (a b c : History) (P : DiskState → Type 0) → Throughout a b P → Throughout b c P → Throughout a c P
-throughout_join a b c P first second = record {
-  later = omega (arith, first.later, second.later);
-  kept = λ t le. second.kept t (omega (arith, first.later)) ∙ first.kept t le;
-  each = λ t from to. elim (cases_lt b.moment t) [
-    | inr before ↦ subst P (sym (second.kept t before)) (first.each t from before)
-    | inl since ↦ second.each t (omega arith) to
-  ];
-}
-
-pub throughout_now : (a b : History) (P : DiskState → Type 0) → Throughout a b P → P (now b)
-throughout_now a b P all = all.each b.moment all.later (omega arith)
+use Rattle.dm_disk_model.proofs.Naming.{absent_create, absent_write, absent_sync, absent_remove, absent_names_synced}
+use Rattle.dm_disk_model.proofs.Reaching.{at_start, at_end, joined, over_call}
 
 pub keeps_same : (place : Place) (old new : History) → new ≡ old → KeepsOthers place old new
 keeps_same place old new same = subst (λ (h : History). KeepsOthers place old h) (sym same)
-    (record { others = λ other differ. refl; absent = λ target differ before. throughout_start old (NeverStands target) before })
+    (record { others = λ other differ. refl; absent = λ target differ before. at_start old (NeverStands target) before })
 
 pub keeps_then : (place : Place) (a b c : History) → KeepsOthers place a b → KeepsOthers place b c → KeepsOthers place a c
 keeps_then place a b c first second = record {
   others = λ other differ. second.others other differ ∙ first.others other differ;
-  absent = λ target differ before. let so_far = first.absent target differ before in throughout_join a b c (NeverStands target) so_far (second.absent target differ (throughout_now a b (NeverStands target) so_far));
+  absent = λ target differ before. let so_far = first.absent target differ before in joined a b c (NeverStands target) so_far (second.absent target differ (at_end a b (NeverStands target) so_far));
 }
 
 keeps_next : (place : Place) (old new : History) (step : DiskState → DiskState → Type 0) → Next old new step → ChangesOnly place (now old) (now new)
     → ((target : Place) → target.name ≢ place.name → NeverStands target (now old) → NeverStands target (now new)) → KeepsOthers place old new
 keeps_next place old new step next others absent = record {
   others = others;
-  absent = λ target differ before. throughout_next old old new (NeverStands target) step (throughout_start old (NeverStands target) before) next (absent target differ before);
+  absent = λ target differ before. over_call old new (NeverStands target) step next before (absent target differ before);
 }
 
 module _ (place : Place) (result : Result (Unit {0}) DiskFault) (old new : History) where

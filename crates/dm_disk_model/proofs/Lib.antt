@@ -1,5 +1,7 @@
+pub mod Beside
 pub mod FileBytes
 pub mod FirmNames
+pub mod Firmness
 pub mod Images
 pub mod Keeping
 pub mod Naming

@@ -1,55 +1,36 @@
--- A name that is given once, by one rename of a settled file, over the steps of a disk and over its moments.
-use Rattle.std.proofs.Common.{◌≡◌, ℕ, List, [], ◌∷◌, ◌++◌, length, take, Option, Some, None, Result, Ok, Err, ◌⊎◌, inl, inr, refl, sym, ◌∙◌, ap, subst, arith}
+-- A name that is given once, by one rename of a settled file, over the steps of a disk.
+use Rattle.std.proofs.Common.{◌≡◌, ℕ, List, length, Option, Some, None, Result, Ok, Err, ◌⊎◌, inl, inr, sym, ◌∙◌, ap, subst}
 use Rattle.std.specs.Prelude.{◌≢◌}
-use Rattle.std.proofs.lemmas.List.{take_all, take-append-le, length-append}
-use Rattle.std.proofs.lemmas.Grind.{same_number_lists}
-use Rattle.std.proofs.lemmas.Bool.{cases_lt}
 use Rattle.dm_disk_model.specs.declared.place.Area.{Area}
 use Rattle.dm_disk_model.specs.declared.place.Area.TheVariants.{State, Files}
 use Rattle.dm_disk_model.specs.declared.place.Place.{Place}
 use Rattle.dm_disk_model.specs.declared.place.DiskFault.{DiskFault}
-use Rattle.dm_disk_model.specs.File.{File, FileLeaves, IsWritten, IsTorn, IsSynced}
-use Rattle.dm_disk_model.specs.Folder.{Folder, Names, names_of, names_after, EachPrefix, Change, Created, Renamed, Removed, after_change, after_changes, with_name, FileSteps, Creates, Changes, SyncsNames, NameLeaves, FolderLeaves}
-use Rattle.dm_disk_model.specs.Disk.{DiskState, Image, History, Next, now, folder_in, InArea, MayLeave, bytes_at, CreateStep, WriteStep, SyncStep, RemoveStep, SyncNamesStep}
-use Rattle.dm_disk_model.specs.Names.{IsAbsent, NeverStands, settled_file, IsSettled, IsGiven, folder_of_image, image_at, LeavesNothingOr, LeavesNothing, LeavesJust, Throughout}
-use Rattle.dm_disk_model.proofs.Reading.{with_name_same, with_name_other, names_of-changed, stepped_read}
+use Rattle.dm_disk_model.specs.File.{File, IsWritten, IsTorn, IsSynced, settled_file}
+use Rattle.dm_disk_model.specs.Folder.{Folder, Names, names_of, EachPrefix, Change, Created, Renamed, Removed, after_changes, with_name, FileSteps, Creates, Changes, SyncsNames, NameLeaves, FolderLeaves}
+use Rattle.dm_disk_model.specs.Disk.{DiskState, Image, folder_in, folder_of_image, image_at, InArea, MayLeave, bytes_at, CreateStep, WriteStep, SyncStep, RemoveStep, SyncNamesStep}
+use Rattle.dm_disk_model.specs.Firm.{IsAbsent, HasFile, LeftOf}
+use Rattle.dm_disk_model.specs.Names.{NeverStands, IsSettled, IsGiven, LeavesNothingOr, LeavesNothing, LeavesJust}
+use Rattle.dm_disk_model.proofs.PendingNames.{with_name_same, with_name_other, names_more, each_now, each_more, each_synced}
+use Rattle.dm_disk_model.proofs.Images.{settled_leaves}
+use Rattle.dm_disk_model.proofs.FirmNames.{each_same, left_by, nothing_left, none_left, has_left, has_after_sync}
+use Rattle.dm_disk_model.proofs.Reading.{stepped_read}
 use Rattle.dm_disk_model.proofs.Places.{in_folder}
 
--- a property of the names after each prefix, over one more change
-module _ (old new : Folder) (change : Change) (P : Names → Type 0) (synced : new.synced ≡ old.synced) (changes : new.changes ≡ old.changes ++ change ∷ []) where
-  pub each_prefix_push : EachPrefix old P → P (after_change (names_of old) change) → EachPrefix new P
-  each_prefix_push before last count = elim (cases_lt (length old.changes) count) [
-    | inr within ↦
-        subst P (sym (ap (λ (s : Names). after_changes s (take count new.changes)) synced ∙ ap (λ (cs : List Change). after_changes old.synced (take count cs)) changes ∙ ap (after_changes old.synced) (take-append-le count old.changes (change ∷ []) within))) (before count)
-    | inl past ↦
-        subst P (sym (ap (after_changes new.synced) (take_all count new.changes (omega (arith, ap length changes, length-append old.changes (change ∷ [])))) ∙ names_of-changed old new change synced changes)) last
-  ]
-
-each_prefix_same : (old new : Folder) (P : Names → Type 0) → new.synced ≡ old.synced → new.changes ≡ old.changes → EachPrefix old P → EachPrefix new P
-each_prefix_same old new P synced changes before count =
-    subst P (sym (ap (λ (s : Names). after_changes s (take count new.changes)) synced ∙ ap (λ (cs : List Change). after_changes old.synced (take count cs)) changes)) (before count)
-
-take_none : (count : ℕ) (changes : List Change) → changes ≡ [] → take count changes ≡ []
-take_none count changes none = ap (take count) none ∙ take_all count [] (omega arith)
-
+-- a property of the names after each prefix, over a sync of the names
 each_prefix_synced : (old new : Folder) (P : Names → Type 0) → SyncsNames old new → EachPrefix old P → EachPrefix new P
-each_prefix_synced old new P step before count =
-    subst P (sym (ap (λ (s : Names). after_changes s (take count new.changes)) step.synced ∙ ap (after_changes (names_of old)) (take_none count new.changes step.changes)))
-    (subst P (ap (after_changes old.synced) (take_all (length old.changes) old.changes (omega arith))) (before (length old.changes)))
+each_prefix_synced old new P step before = each_synced new P step.changes (subst P (sym step.synced) (each_now old P before))
 
 -- a name that never stands stays so where another name is created, renamed or removed
 module _ (name other : List ℕ) (differ : name ≢ other) (old new : Folder) where
   absent_created : Creates other old new → IsAbsent name old → IsAbsent name new
   absent_created step before =
-      each_prefix_push old new (Created other step.number) (λ names. names name ≡ None) step.synced step.changes before
-      (with_name_other (names_of old) other (Some step.number) name differ ∙ now_absent old before) where
-        now_absent : (folder : Folder) → IsAbsent name folder → names_of folder name ≡ None
-        now_absent folder absent = subst (λ (ns : Names). ns name ≡ None) (ap (after_changes folder.synced) (take_all (length folder.changes) folder.changes (omega arith))) (absent (length folder.changes))
+      each_more old new (Created other step.number) (λ names. names name ≡ None) step.synced step.changes before
+      (with_name_other (names_of old) other (Some step.number) name differ ∙ each_now old (λ names. names name ≡ None) before)
 
   absent_removed : Changes (Removed other) old new → IsAbsent name old → IsAbsent name new
   absent_removed step before =
-      each_prefix_push old new (Removed other) (λ names. names name ≡ None) step.synced step.changes before
-      (with_name_other (names_of old) other None name differ ∙ subst (λ (ns : Names). ns name ≡ None) (ap (after_changes old.synced) (take_all (length old.changes) old.changes (omega arith))) (before (length old.changes)))
+      each_more old new (Removed other) (λ names. names name ≡ None) step.synced step.changes before
+      (with_name_other (names_of old) other None name differ ∙ each_now old (λ names. names name ≡ None) before)
 
 -- a property of a folder, over a step in one area
 kept_in_area : (a b : Area) (step : Folder → Folder → Type 0) (P : Folder → Type 0) (old new : DiskState) → InArea a step old new → ((f g : Folder) → step f g → P f → P g) → P (folder_in b old) → P (folder_in b new)
@@ -60,7 +41,7 @@ kept_in_area Files State step P old new taken keeps before = subst P (sym taken.
 
 -- a step of a file changes no names
 absent_stepped : (name other : List ℕ) (step : File → File → Type 0) (f g : Folder) → FileSteps other step f g → IsAbsent name f → IsAbsent name g
-absent_stepped name other step f g steps before = each_prefix_same f g (λ names. names name ≡ None) steps.synced steps.changes before
+absent_stepped name other step f g steps before = each_same f g (λ names. names name ≡ None) steps.synced steps.changes before
 
 same_state : (P : DiskState → Type 0) (old new : DiskState) → new ≡ old → P old → P new
 same_state P old new same before = subst P (sym same) before
@@ -79,8 +60,7 @@ module _ (target place : Place) (differ : target.name ≢ place.name) (old new :
 
   pub absent_sync : (result : Result (Unit {0}) DiskFault) → SyncStep place result old new → NeverStands target new
   absent_sync (Ok done) step = kept_in_area place.area target.area (FileSteps place.name IsSynced) (IsAbsent target.name) old new step (absent_stepped target.name place.name IsSynced) before
-  absent_sync (Err fault) (inl same) = same_state (NeverStands target) old new same before
-  absent_sync (Err fault) (inr same) = same_state (NeverStands target) old new same before
+  absent_sync (Err fault) same = same_state (NeverStands target) old new same before
 
   pub absent_remove : (result : Result (Unit {0}) DiskFault) → RemoveStep place result old new → NeverStands target new
   absent_remove (Ok done) step = kept_in_area place.area target.area (Changes (Removed place.name)) (IsAbsent target.name) old new step (absent_removed target.name place.name differ) before
@@ -104,7 +84,7 @@ given_changed : (from to : List ℕ) (bytes : List ℕ) (old new : Folder) (numb
     → IsAbsent to old → Changes (Renamed from to) old new → IsGiven to bytes new
 given_changed from to bytes old new number stands settled absent step = record {
   number = number;
-  names = each_prefix_push old new (Renamed from to) (λ names. (names to ≡ None) ⊎ (names to ≡ Some number)) step.synced step.changes (λ count. inl (absent count)) (inr (with_name_same (with_name (names_of old) from None) to (names_of old from) ∙ stands));
+  names = each_more old new (Renamed from to) (λ names. (names to ≡ None) ⊎ (names to ≡ Some number)) step.synced step.changes (λ count. inl (absent count)) (inr (with_name_same (with_name (names_of old) from None) to (names_of old from) ∙ stands));
   settled = ap (λ (files : ℕ → File). files number) step.files ∙ settled;
 }
 
@@ -126,29 +106,18 @@ given_synced name bytes old new step given = record {
 pub given_names_synced : (target : Place) (bytes : List ℕ) (area : Area) (result : Result (Unit {0}) DiskFault) (old new : DiskState) → SyncNamesStep area result old new
     → IsGiven target.name bytes (folder_in target.area old) → IsGiven target.name bytes (folder_in target.area new)
 given_names_synced target bytes area (Ok done) old new step given = kept_in_area area target.area SyncsNames (IsGiven target.name bytes) old new step (given_synced target.name bytes) given
-given_names_synced target bytes area (Err fault) old new (inl same) given = subst (λ (d : DiskState). IsGiven target.name bytes (folder_in target.area d)) (sym same) given
-given_names_synced target bytes area (Err fault) old new (inr same) given = subst (λ (d : DiskState). IsGiven target.name bytes (folder_in target.area d)) (sym same) given
+given_names_synced target bytes area (Err fault) old new same given = subst (λ (d : DiskState). IsGiven target.name bytes (folder_in target.area d)) (sym same) given
 
 absent_synced : (name : List ℕ) (old new : Folder) → SyncsNames old new → IsAbsent name old → IsAbsent name new
 absent_synced name old new step before = each_prefix_synced old new (λ names. names name ≡ None) step before
 
 pub absent_names_synced : (target : Place) (area : Area) (result : Result (Unit {0}) DiskFault) (old new : DiskState) → SyncNamesStep area result old new → NeverStands target old → NeverStands target new
 absent_names_synced target area (Ok done) old new step before = kept_in_area area target.area SyncsNames (IsAbsent target.name) old new step (absent_synced target.name) before
-absent_names_synced target area (Err fault) old new (inl same) before = same_state (NeverStands target) old new same before
-absent_names_synced target area (Err fault) old new (inr same) before = same_state (NeverStands target) old new same before
+absent_names_synced target area (Err fault) old new same before = same_state (NeverStands target) old new same before
 
--- what a crash leaves of a settled file is what it holds
-settled_leaves : (bytes left : List ℕ) → FileLeaves (settled_file bytes) left → left ≡ bytes
-settled_leaves bytes left leaves =
-    same_number_lists left bytes (omega (arith, leaves.no_shorter, leaves.no_longer)) (λ k below. leaves.clean k (record { below = omega (arith, leaves.no_longer); untouched = tt }))
-
-name_leaves_none : (file : ℕ → File) (found : Option (List ℕ)) → NameLeaves file None found → found ≡ None
-name_leaves_none file None leaves = refl
-name_leaves_none file (Some bytes) leaves = absurd leaves
-
-name_leaves_settled : (file : ℕ → File) (number : ℕ) (bytes : List ℕ) (found : Option (List ℕ)) → file number ≡ settled_file bytes → NameLeaves file (Some number) found → found ≡ Some bytes
-name_leaves_settled file number bytes None settled leaves = absurd leaves
-name_leaves_settled file number bytes (Some left) settled leaves = ap Some (settled_leaves bytes left (subst (λ (f : File). FileLeaves f left) settled leaves))
+-- a settled file is left as it is
+left_settled : (bytes : List ℕ) (found : Option (List ℕ)) → LeftOf (settled_file bytes) found → found ≡ Some bytes
+left_settled bytes found left = left.is ∙ ap Some (settled_leaves bytes left.bytes left.left)
 
 folder_leaves : (area : Area) (disk : DiskState) (image : Image) → MayLeave disk image → FolderLeaves (folder_in area disk) (folder_of_image area image)
 folder_leaves State disk image leaves = leaves.state
@@ -156,10 +125,7 @@ folder_leaves Files disk image leaves = leaves.files
 
 -- where the name never stands, no image has it
 pub absent_leaves : (place : Place) (disk : DiskState) → NeverStands place disk → LeavesNothing place disk
-absent_leaves place disk absent image leaves =
-    let left = folder_leaves place.area disk image leaves in
-    let folder = folder_in place.area disk in
-    name_leaves_none folder.file _ (subst (λ (n : Option ℕ). NameLeaves folder.file n (image_at image place)) (absent left.survive) (left.each place.name))
+absent_leaves place disk absent image leaves = none_left (folder_in place.area disk) place.name (folder_of_image place.area image) absent (folder_leaves place.area disk image leaves)
 
 -- where the name was given, each image has nothing there, or the whole file
 pub given_leaves : (place : Place) (bytes : List ℕ) (disk : DiskState) → IsGiven place.name bytes (folder_in place.area disk) → LeavesNothingOr place bytes disk
@@ -167,53 +133,24 @@ given_leaves place bytes disk given image leaves =
     let left = folder_leaves place.area disk image leaves in
     let folder = folder_in place.area disk in
     elim (given.names left.survive) [
-      | inl none ↦ inl (name_leaves_none folder.file _ (subst (λ (n : Option ℕ). NameLeaves folder.file n (image_at image place)) none (left.each place.name)))
-      | inr some ↦ inr (name_leaves_settled folder.file given.number bytes _ given.settled (subst (λ (n : Option ℕ). NameLeaves folder.file n (image_at image place)) some (left.each place.name)))
+      | inl none ↦ inl (nothing_left folder.file (image_at image place) (subst (λ (n : Option ℕ). NameLeaves folder.file n (image_at image place)) none (left.each place.name)))
+      | inr some ↦ inr (left_settled bytes (image_at image place) (left_by folder.file given.number (settled_file bytes) (image_at image place) given.settled (subst (λ (n : Option ℕ). NameLeaves folder.file n (image_at image place)) some (left.each place.name))))
     ]
 
+-- A name that has a settled file leaves just that.
+just_leaves : (place : Place) (bytes : List ℕ) (disk : DiskState) → HasFile (folder_in place.area disk) place.name (settled_file bytes) → LeavesJust place bytes disk
+just_leaves place bytes disk has image leaves =
+    left_settled bytes (image_at image place) (has_left (folder_in place.area disk) place.name (settled_file bytes) (folder_of_image place.area image) has (folder_leaves place.area disk image leaves))
+
 -- A settled file that was renamed, with the names synced since, is in each image.
-just_synced : (to : List ℕ) (bytes : List ℕ) (mid new : Folder) (number : ℕ) → names_of mid to ≡ Some number → mid.file number ≡ settled_file bytes → SyncsNames mid new
-    → ((count : ℕ) → names_after new count to ≡ Some number) × (new.file number ≡ settled_file bytes)
-just_synced to bytes mid new number named settled step = (
-  λ count. ap (λ (ns : Names). ns to) (ap (λ (s : Names). after_changes s (take count new.changes)) step.synced ∙ ap (after_changes (names_of mid)) (take_none count new.changes step.changes)) ∙ named,
-  ap (λ (files : ℕ → File). files number) step.files ∙ settled,
-)
-
-just_leaves : (place : Place) (bytes : List ℕ) (disk : DiskState) (number : ℕ) → ((count : ℕ) → names_after (folder_in place.area disk) count place.name ≡ Some number)
-    → (folder_in place.area disk).file number ≡ settled_file bytes → LeavesJust place bytes disk
-just_leaves place bytes disk number names settled image leaves =
-    let left = folder_leaves place.area disk image leaves in
-    let folder = folder_in place.area disk in
-    name_leaves_settled folder.file number bytes _ settled (subst (λ (n : Option ℕ). NameLeaves folder.file n (image_at image place)) (names left.survive) (left.each place.name))
-
 pub just_published : (from to : Place) (bytes : List ℕ) (old mid new : DiskState) → to.area ≡ from.area → IsSettled from bytes old
     → InArea from.area (Changes (Renamed from.name to.name)) old mid → InArea to.area SyncsNames mid new → LeavesJust to bytes new
 just_published from to bytes old mid new one_area settled renamed synced =
     let step = in_folder from.area (Changes (Renamed from.name to.name)) old mid renamed in
     let named : names_of (folder_in from.area mid) to.name ≡ Some settled.number =
-    ap (λ (ns : Names). ns to.name) (names_of-changed (folder_in from.area old) (folder_in from.area mid) (Renamed from.name to.name) step.synced step.changes) ∙ with_name_same (with_name (names_of (folder_in from.area old)) from.name None) to.name (names_of (folder_in from.area old) from.name) ∙ settled.stands in
+    ap (λ (ns : Names). ns to.name) (names_more (folder_in from.area old) (folder_in from.area mid) (Renamed from.name to.name) step.synced step.changes) ∙ with_name_same (with_name (names_of (folder_in from.area old)) from.name None) to.name (names_of (folder_in from.area old) from.name) ∙ settled.stands in
     let whole : (folder_in from.area mid).file settled.number ≡ settled_file bytes = ap (λ (files : ℕ → File). files settled.number) step.files ∙ settled.settled in
-    let after = just_synced to.name bytes (folder_in to.area mid) (folder_in to.area new) settled.number
-    (subst (λ (a : Area). names_of (folder_in a mid) to.name ≡ Some settled.number) (sym one_area) named) (subst (λ (a : Area). (folder_in a mid).file settled.number ≡ settled_file bytes) (sym one_area) whole)
-    (in_folder to.area SyncsNames mid new synced) in
-    just_leaves to bytes new settled.number after.0 after.1
-
--- moments: from one history to itself, and on by a call
-pub throughout_start : (h : History) (P : DiskState → Type 0) → P (now h) → Throughout h h P
-throughout_start h P here = record { later = omega arith; kept = λ t le. refl; each = λ t from to. subst (λ (m : ℕ). P (h.at m)) (let e : h.moment ≡ t = omega arith in e) here }
-
-pub throughout_next : (start old new : History) (P : DiskState → Type 0) (step : DiskState → DiskState → Type 0) → Throughout start old P → Next old new step → P (now new) → Throughout start new P
-throughout_next start old new P step so_far next after = record {
-  later = omega (arith, so_far.later, next.later);
-  kept = λ t le. next.kept t (omega (arith, so_far.later)) ∙ so_far.kept t le;
-  each = λ t from to. elim (cases_lt old.moment t) [
-    | inr before ↦ subst P (sym (next.kept t before)) (so_far.each t from before)
-    | inl since ↦ elim (next.between t (omega arith) to) [
-      | inl was ↦ subst P (sym was) (so_far.each old.moment so_far.later (omega arith))
-      | inr is ↦ subst P (sym is) after
-    ]
-  ];
-}
-
-pub throughout_weaker : (start old : History) (P Q : DiskState → Type 0) → ((d : DiskState) → P d → Q d) → Throughout start old P → Throughout start old Q
-throughout_weaker start old P Q weaker so_far = record { later = so_far.later; kept = so_far.kept; each = λ t from to. weaker _ (so_far.each t from to) }
+    let has : HasFile (folder_in to.area new) to.name ((folder_in to.area mid).file settled.number) =
+    has_after_sync (folder_in to.area mid) (folder_in to.area new) to.name settled.number
+    (subst (λ (a : Area). names_of (folder_in a mid) to.name ≡ Some settled.number) (sym one_area) named) (in_folder to.area SyncsNames mid new synced) in
+    just_leaves to bytes new (subst (HasFile (folder_in to.area new) to.name) (subst (λ (a : Area). (folder_in a mid).file settled.number ≡ settled_file bytes) (sym one_area) whole) has)

@@ -6,8 +6,23 @@ use Rattle.std.proofs.lemmas.Bool.{cases_lt, false≢true}
 use Rattle.std.proofs.lemmas.Option.{none-some, same_Some}
 use Rattle.std.proofs.lemmas.Slice.Eq.{bytes_eq-Decides}
 use Rattle.std.specs.Bool.{Decides}
-pub use Rattle.dm_disk_model.proofs.Reading.{with_name_same, with_name_other}
 use Rattle.dm_disk_model.specs.Folder.{Names, Change, Created, Renamed, Removed, Folder, with_name, after_change, after_changes, names_of, names_after, EachPrefix, AreApart}
+
+-- the test of two names
+bytes_eq_same : (name : List ℕ) → bytes_eq name name ≡ true
+bytes_eq_same name = (bytes_eq-Decides name name).1 refl
+
+bytes_eq_other : (a b : List ℕ) → a ≢ b → bytes_eq a b ≡ false
+bytes_eq_other a b differ = by_test (bytes_eq a b) (bytes_eq-Decides a b) differ where
+  by_test : (t : Bool) → Decides t (a ≡ b) → a ≢ b → t ≡ false
+  by_test true d h = absurd (h (d.0 refl))
+  by_test false d h = refl
+
+pub with_name_same : (names : Names) (name : List ℕ) (number : Option ℕ) → with_name names name number name ≡ number
+with_name_same names name number = ap (λ t. cond t number (names name)) (bytes_eq_same name)
+
+pub with_name_other : (names : Names) (name : List ℕ) (number : Option ℕ) (other : List ℕ) → other ≢ name → with_name names name number other ≡ names other
+with_name_other names name number other differ = ap (λ t. cond t number (names other)) (bytes_eq_other other name differ)
 
 -- a name that is set, and the others
 pub with_name_cases : (names : Names) (name : List ℕ) (number : Option ℕ) (other : List ℕ)

@@ -1,5 +1,5 @@
 -- What the calls of a disk do to the places as they read.
-use Rattle.std.proofs.Common.{◌≡◌, ℕ, List, [], length, Option, Some, None, IsSome, Result, Ok, Err, ◌⊎◌, inl, inr, refl, sym, ◌∙◌, ap}
+use Rattle.std.proofs.Common.{◌≡◌, ℕ, List, [], length, Option, Some, None, IsSome, Result, Ok, Err, ◌⊎◌, inl, inr, refl, sym, ◌∙◌, ap, subst}
 use Rattle.std.specs.Prelude.{◌≢◌}
 use Rattle.std.specs.Option.{option_map}
 use Rattle.dm_disk_model.specs.declared.place.Area.{Area}
@@ -8,7 +8,7 @@ use Rattle.dm_disk_model.specs.declared.place.Place.{Place}
 use Rattle.dm_disk_model.specs.declared.place.DiskFault.{DiskFault}
 use Rattle.dm_disk_model.specs.File.{File, IsWritten, IsTorn, IsSynced, overwrite}
 use Rattle.dm_disk_model.specs.Folder.{Folder, names_of, contents_of, Renamed, Removed, FileSteps, Creates, Changes, IsSoundFolder}
-use Rattle.dm_disk_model.specs.Disk.{DiskState, folder_in, InArea, Stands, StandsNot, bytes_at, ChangesOnly, IsSoundDisk, CreateStep, WriteStep, SyncStep, RenameStep, RemoveStep, SyncNamesStep}
+use Rattle.dm_disk_model.specs.Disk.{DiskState, folder_in, InArea, Done, DoneWhole, Stands, StandsNot, bytes_at, ChangesOnly, IsSoundDisk, CreateStep, WriteStep, SyncStep, RenameStep, RemoveStep, SyncNamesStep}
 use Rattle.dm_disk_model.proofs.Reading.{created_reads, created_others, renamed_to, renamed_from, renamed_others, removed_reads, removed_others, names_synced_reads, stepped_others, stepped_reads, stepped_read, apart_now}
 
 abbrev place_at : Area → List ℕ → Place
@@ -18,6 +18,24 @@ place_at area name = record { area = area; name = name }
 pub in_folder : (area : Area) (step : Folder → Folder → Type 0) (old new : DiskState) → InArea area step old new → step (folder_in area old) (folder_in area new)
 in_folder State step old new taken = taken.0
 in_folder Files step old new taken = taken.0
+
+-- what holds of the user's files, over a step in one folder
+among_files : (P : Folder → Type 0) (area : Area) (step : Folder → Folder → Type 0) (old new : DiskState) → ((folder : Folder) → step old.files folder → P folder) → P old.files → InArea area step old new → P new.files
+among_files P Files step old new keeps before taken = keeps new.files taken.0
+among_files P State step old new keeps before taken = subst P (sym taken.1) before
+
+-- A call: what holds of the user's files stays where the step keeps it, done or begun.
+pub after_done : (P : Folder → Type 0) (area : Area) (step begun : Folder → Folder → Type 0) (result : Result (Unit {0}) DiskFault) (old new : DiskState) → ((folder : Folder) → step old.files folder → P folder)
+    → ((folder : Folder) → begun old.files folder → P folder) → P old.files → Done (InArea area step) (InArea area begun) result old new → P new.files
+after_done P area step begun (Ok done) old new keeps keeps_begun before taken = among_files P area step old new keeps before taken
+after_done P area step begun (Err fault) old new keeps keeps_begun before (inl taken) = among_files P area begun old new keeps_begun before taken
+after_done P area step begun (Err fault) old new keeps keeps_begun before (inr same) = subst (λ (disk : DiskState). P disk.files) (sym same) before
+
+-- the same of a call that changes nothing where it fails
+pub after_whole : (P : Folder → Type 0) (area : Area) (step : Folder → Folder → Type 0) (result : Result (Unit {0}) DiskFault) (old new : DiskState) → ((folder : Folder) → step old.files folder → P folder)
+    → P old.files → DoneWhole (InArea area step) result old new → P new.files
+after_whole P area step (Ok done) old new keeps before taken = among_files P area step old new keeps before taken
+after_whole P area step (Err fault) old new keeps before same = subst (λ (disk : DiskState). P disk.files) (sym same) before
 
 -- A step that leaves all other names of its folder leaves all other places.
 pub others_in_area : (place : Place) (step : Folder → Folder → Type 0) (old new : DiskState) → InArea place.area step old new
@@ -72,8 +90,7 @@ module _ (place : Place) (old new : DiskState) (sound : IsSoundDisk old) where
 
   pub sync_others : (result : Result (Unit {0}) DiskFault) → SyncStep place result old new → ChangesOnly place old new
   sync_others (Ok done) step = file_others IsSynced step
-  sync_others (Err fault) (inl same) = λ other differ. ap (λ (d : DiskState). bytes_at d other) same
-  sync_others (Err fault) (inr same) = λ other differ. ap (λ (d : DiskState). bytes_at d other) same
+  sync_others (Err fault) same = λ other differ. ap (λ (d : DiskState). bytes_at d other) same
 
 -- what was written reads over what was there
 pub write_reads : (place : Place) (at : ℕ) (bytes file : List ℕ) (old new : DiskState) → bytes_at old place ≡ Some file → WriteStep place at bytes (Ok tt) old new → bytes_at new place ≡ Some (overwrite file at bytes)
@@ -106,8 +123,7 @@ names_reads Files (Ok done) old new step place = by_area place.area place.name w
   by_area : (a : Area) (n : List ℕ) → contents_of (folder_in a new) n ≡ contents_of (folder_in a old) n
   by_area State n = ap (λ (f : Folder). contents_of f n) step.1
   by_area Files n = names_synced_reads _ _ step.0 n
-names_reads area (Err fault) old new (inl same) place = ap (λ (d : DiskState). bytes_at d place) same
-names_reads area (Err fault) old new (inr same) place = ap (λ (d : DiskState). bytes_at d place) same
+names_reads area (Err fault) old new same place = ap (λ (d : DiskState). bytes_at d place) same
 
 -- a rename is seen at its two places alone
 module _ (from to : Place) (one_area : to.area ≡ from.area) (old new : DiskState) where

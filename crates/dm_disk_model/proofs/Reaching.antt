@@ -2,8 +2,7 @@
 use Rattle.std.proofs.Common.{◌≡◌, ⊎_elim, ℕ, ◌<◌, ◌≤◌, refl, sym, ◌∙◌, subst, arith}
 use Rattle.std.proofs.lemmas.Bool.{cases_lt}
 use Rattle.dm_disk_model.specs.Disk.{DiskState, Image, History, Next, now, MayHaveLeft}
-use Rattle.dm_disk_model.specs.Moments.{LeavesOnly, Reached}
-use Rattle.dm_disk_model.specs.Names.{Throughout}
+use Rattle.dm_disk_model.specs.Moments.{Throughout, LeavesOnly, Reached}
 
 -- nothing was done
 pub at_start : (history : History) (P : DiskState → Type 0) → P (now history) → Throughout history history P
@@ -46,6 +45,10 @@ both old new P Q first second = record { later = first.later; kept = first.kept;
 pub at_end : (old new : History) (P : DiskState → Type 0) → Throughout old new P → P (now new)
 at_end old new P through = through.each new.moment through.later (omega arith)
 
+-- one call further
+pub over_next : (start old new : History) (P : DiskState → Type 0) (step : DiskState → DiskState → Type 0) → Throughout start old P → Next old new step → P (now new) → Throughout start new P
+over_next start old new P step so_far next after = joined start old new P so_far (over_call old new P step next (at_end start old P so_far) after)
+
 -- what a crash since then might have left
 pub left_since : (old new : History) (P : Image → Type 0) → LeavesOnly old new P → (image : Image) → MayHaveLeft new old.moment image → P image
 left_since old new P only image left = only.each left.0 left.1 left.2 image left.3
@@ -53,13 +56,13 @@ left_since old new P only image left = only.each left.0 left.1 left.2 image left
 pub started : (history : History) (Good S : DiskState → Type 0) → Good (now history) → S (now history) → Reached history history Good S
 started history Good S good here = record { through = at_start history Good good; here = here }
 
--- one call further
+-- so too, where what holds now changes
 pub reach : (start old new : History) (Good S T : DiskState → Type 0) (step : DiskState → DiskState → Type 0) → Reached start old Good S → Next old new step
     → ((before after : DiskState) → S before → step before after → T after) → ((disk : DiskState) → T disk → Good disk) → Reached start new Good T
 reach start old new Good S T step so_far next leads good =
     let here : T (now new) = leads (now old) (now new) so_far.here next.stepped in
     record {
-      through = joined start old new Good so_far.through (over_call old new Good step next (at_end start old Good so_far.through) (good (now new) here));
+      through = over_next start old new Good step so_far.through next (good (now new) here);
       here = here;
     }
 

@@ -1,41 +1,10 @@
 -- What the steps of a folder do to its contents as they read.
-use Rattle.std.proofs.Common.{◌≡◌, ℕ, Bool, true, false, cond, List, [], ◌∷◌, ◌++◌, length, Option, Some, None, Decides, refl, ◌∙◌, ap, subst, arith}
-use Rattle.std.specs.Prelude.{◌≢◌, bytes_eq}
+use Rattle.std.proofs.Common.{◌≡◌, ℕ, List, [], Option, Some, None, refl, ◌∙◌, ap}
+use Rattle.std.specs.Prelude.{◌≢◌}
 use Rattle.std.specs.Option.{option_map}
-use Rattle.std.proofs.lemmas.Slice.Eq.{bytes_eq-Decides}
-use Rattle.std.proofs.lemmas.List.{take_all}
 use Rattle.dm_disk_model.specs.File.{File}
-use Rattle.dm_disk_model.specs.Folder.{Names, with_name, Change, Created, Renamed, Removed, after_change, after_changes, Folder, names_of, names_after, contents_of, AreApart, IsSoundFolder, FileSteps, Creates, Changes, SyncsNames}
-
--- the test of two names
-bytes_eq_same : (name : List ℕ) → bytes_eq name name ≡ true
-bytes_eq_same name = (bytes_eq-Decides name name).1 refl
-
-bytes_eq_other : (a b : List ℕ) → a ≢ b → bytes_eq a b ≡ false
-bytes_eq_other a b differ = by_test (bytes_eq a b) (bytes_eq-Decides a b) differ where
-  by_test : (t : Bool) → Decides t (a ≡ b) → a ≢ b → t ≡ false
-  by_test true d h = absurd (h (d.0 refl))
-  by_test false d h = refl
-
-pub with_name_same : (names : Names) (name : List ℕ) (number : Option ℕ) → with_name names name number name ≡ number
-with_name_same names name number = ap (λ t. cond t number (names name)) (bytes_eq_same name)
-
-pub with_name_other : (names : Names) (name : List ℕ) (number : Option ℕ) (other : List ℕ) → other ≢ name → with_name names name number other ≡ names other
-with_name_other names name number other differ = ap (λ t. cond t number (names other)) (bytes_eq_other other name differ)
-
--- one more change comes after the others
-pub after_changes-push : (names : Names) (changes : List Change) (change : Change) → after_changes names (changes ++ change ∷ []) ≡ after_change (after_changes names changes) change
-after_changes-push names [] change = refl
-after_changes-push names (first ∷ changes) change = after_changes-push (after_change names first) changes change
-
--- with all of its changes a folder has the names that read
-names_after_all : (folder : Folder) → names_after folder (length folder.changes) ≡ names_of folder
-names_after_all folder = ap (after_changes folder.synced) (take_all (length folder.changes) folder.changes (omega arith))
-
--- the names after one more change
-pub names_of-changed : (old new : Folder) (change : Change) → new.synced ≡ old.synced → new.changes ≡ old.changes ++ change ∷ [] → names_of new ≡ after_change (names_of old) change
-names_of-changed old new change synced changes =
-    ap (λ (s : Names). after_changes s new.changes) synced ∙ ap (after_changes old.synced) changes ∙ after_changes-push old.synced old.changes change
+use Rattle.dm_disk_model.specs.Folder.{Names, with_name, Change, Created, Renamed, Removed, after_change, after_changes, Folder, names_of, contents_of, AreApart, IsSoundFolder, FileSteps, Creates, Changes, SyncsNames}
+use Rattle.dm_disk_model.proofs.PendingNames.{with_name_same, with_name_other, names_more, each_now}
 
 -- Which file a name has, and what that holds, give what reads under the name.
 contents_by : (folder : Folder) (name : List ℕ) (number : Option ℕ) → names_of folder name ≡ number → contents_of folder name ≡ option_map (λ k. (folder.file k).bytes) number
@@ -52,19 +21,19 @@ same_contents old new name same files =
 -- a new file is empty
 pub created_reads : (name : List ℕ) (old new : Folder) → Creates name old new → contents_of new name ≡ Some []
 created_reads name old new step =
-    contents_by new name (Some step.number) (ap (λ (ns : Names). ns name) (names_of-changed old new (Created name step.number) step.synced step.changes) ∙ with_name_same (names_of old) name (Some step.number))
+    contents_by new name (Some step.number) (ap (λ (ns : Names). ns name) (names_more old new (Created name step.number) step.synced step.changes) ∙ with_name_same (names_of old) name (Some step.number))
     ∙ ap (λ (f : File). Some f.bytes) step.empty
 
 pub created_others : (name : List ℕ) (old new : Folder) → Creates name old new → (other : List ℕ) → other ≢ name → contents_of new other ≡ contents_of old other
 created_others name old new step other differ =
     same_contents old new other
-    (ap (λ (ns : Names). ns other) (names_of-changed old new (Created name step.number) step.synced step.changes) ∙ with_name_other (names_of old) name (Some step.number) other differ)
-    (λ k has. step.others k (λ e. step.unused (length old.changes) other (ap (λ (ns : Names). ns other) (names_after_all old) ∙ has ∙ ap Some e)))
+    (ap (λ (ns : Names). ns other) (names_more old new (Created name step.number) step.synced step.changes) ∙ with_name_other (names_of old) name (Some step.number) other differ)
+    (λ k has. step.others k (λ e. each_now old (λ names. (n : List ℕ) → names n ≢ Some step.number) step.unused other (has ∙ ap Some e)))
 
 -- a change of names leaves every file
 changed_contents : (change : Change) (old new : Folder) → Changes change old new → (name : List ℕ) → contents_of new name ≡ option_map (λ k. (old.file k).bytes) (after_change (names_of old) change name)
 changed_contents change old new step name =
-    contents_by new name (after_change (names_of old) change name) (ap (λ (ns : Names). ns name) (names_of-changed old new change step.synced step.changes))
+    contents_by new name (after_change (names_of old) change name) (ap (λ (ns : Names). ns name) (names_more old new change step.synced step.changes))
     ∙ ap (λ (files : ℕ → File). option_map (λ k. (files k).bytes) (after_change (names_of old) change name)) step.files
 
 -- the new name has what the old one had
@@ -114,4 +83,4 @@ module _ (name : List ℕ) (step : File → File → Type 0) (old new : Folder) 
 
 -- in a sound folder the names that read are apart
 pub apart_now : (folder : Folder) → IsSoundFolder folder → AreApart (names_of folder)
-apart_now folder sound = subst AreApart (names_after_all folder) (sound.apart (length folder.changes))
+apart_now folder sound = each_now folder AreApart sound.apart

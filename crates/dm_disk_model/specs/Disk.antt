@@ -20,6 +20,14 @@ abbrev pub folder_in : Area → DiskState → Folder
 folder_in State disk = disk.state
 folder_in Files disk = disk.files
 
+abbrev pub folder_of_image : Area → Image → Contents
+folder_of_image State image = image.state
+folder_of_image Files image = image.files
+
+-- what an image has at a place
+abbrev pub image_at : Image → Place → Option (List ℕ)
+image_at image place = folder_of_image place.area image place.name
+
 -- a crash now may leave this image: each folder's part is independent of the other's
 pub record MayLeave (disk : DiskState) (image : Image) : Type 0 where
   pub state : FolderLeaves disk.state image.state
@@ -77,6 +85,11 @@ abbrev pub Done : (DiskState → DiskState → Type 0) → (DiskState → DiskSt
 Done step begun (Ok done) old new = step old new
 Done step begun (Err fault) old new = begun old new ⊎ (new ≡ old)
 
+-- the same of a call that changes nothing where it fails
+abbrev pub DoneWhole : (DiskState → DiskState → Type 0) → Result (Unit {0}) DiskFault → DiskState → DiskState → Type 0
+DoneWhole step (Ok done) old new = step old new
+DoneWhole step (Err fault) old new = new ≡ old
+
 abbrev pub CreateStep : Place → Result (Unit {0}) DiskFault → DiskState → DiskState → Type 0
 CreateStep place = Done (InArea place.area (Creates place.name)) (InArea place.area (Creates place.name))
 
@@ -86,7 +99,7 @@ WriteStep place at bytes =
 
 -- a sync that fails makes nothing clean
 abbrev pub SyncStep : Place → Result (Unit {0}) DiskFault → DiskState → DiskState → Type 0
-SyncStep place = Done (InArea place.area (FileSteps place.name IsSynced)) (λ old new. new ≡ old)
+SyncStep place = DoneWhole (InArea place.area (FileSteps place.name IsSynced))
 
 abbrev pub RenameStep : Place → Place → Result (Unit {0}) DiskFault → DiskState → DiskState → Type 0
 RenameStep from to = Done (InArea from.area (Changes (Renamed from.name to.name))) (InArea from.area (Changes (Renamed from.name to.name)))
@@ -95,7 +108,7 @@ abbrev pub RemoveStep : Place → Result (Unit {0}) DiskFault → DiskState → 
 RemoveStep place = Done (InArea place.area (Changes (Removed place.name))) (InArea place.area (Changes (Removed place.name)))
 
 abbrev pub SyncNamesStep : Area → Result (Unit {0}) DiskFault → DiskState → DiskState → Type 0
-SyncNamesStep area = Done (InArea area SyncsNames) (λ old new. new ≡ old)
+SyncNamesStep area = DoneWhole (InArea area SyncsNames)
 
 -- n bytes were read from the place on: none only at or past the end, or of an empty buffer
 pub record Reads (file : List ℕ) (at n : ℕ) (buffer : List ℕ) : Type 0 where

@@ -39,9 +39,17 @@ pub record SameOutside (from to : ℕ) (old new : List ℕ) : Type 0 where
 abbrev pub empty_file : File
 empty_file = record { bytes = []; synced = 0; touched = [] }
 
+-- a file that holds these bytes, all of them clean
+abbrev pub settled_file : List ℕ → File
+settled_file bytes = record { bytes = bytes; synced = length bytes; touched = [] }
+
+-- all of the file is clean
+abbrev pub IsAllClean : File → Type 0
+IsAllClean file = file ≡ settled_file file.bytes
+
 -- the file after a sync: all of it is clean
 abbrev pub synced_file : File → File
-synced_file file = record { bytes = file.bytes; synced = length file.bytes; touched = [] }
+synced_file file = settled_file file.bytes
 
 -- the bytes were written at this place
 pub record IsWritten (at : ℕ) (piece : List ℕ) (old new : File) : Type 0 where

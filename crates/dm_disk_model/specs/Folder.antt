@@ -1,7 +1,7 @@
 -- One folder: files by number, which names they have, and what a crash may leave of both.
 use Rattle.std.specs.Prelude.{◌≡◌, ◌≢◌, ℕ, ◌<◌, ◌≤◌, slice_get, if◌then◌else◌, bytes_eq, List, [], ◌∷◌, ◌++◌, length, take, Option, Some, None, IsSome, Contains, ◌↔◌}
 use Rattle.std.specs.Option.{option_map}
-use Rattle.dm_disk_model.specs.File.{File, FileLeaves, empty_file}
+use Rattle.dm_disk_model.specs.File.{File, FileLeaves, empty_file, IsAllClean}
 
 -- The file's number under each name. A number stands for one file for good, whichever names it has.
 abbrev pub Names : Type 0
@@ -69,6 +69,10 @@ pub record FolderLeaves (folder : Folder) (contents : Contents) : Type 0 where
 -- this holds of the names after each prefix of the changes
 abbrev pub EachPrefix : Folder → (Names → Type 0) → Type 0
 EachPrefix folder P = (count : ℕ) → P (names_after folder count)
+
+-- each file that has a name is clean throughout
+abbrev pub AreSettled : Folder → Type 0
+AreSettled folder = (name : List ℕ) (number : ℕ) → names_of folder name ≡ Some number → IsAllClean (folder.file number)
 
 -- two names never share a file
 abbrev pub AreApart : Names → Type 0

@@ -1,3 +1,5 @@
+pub mod Beside
+pub mod Counts
 pub mod Disk
 pub mod Faults
 pub mod File

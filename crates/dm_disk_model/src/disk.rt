@@ -1,4 +1,4 @@
-ghost use Rattle.std.specs.Prelude.{◌≡◌, ◌+◌, ◌<◌, ◌≤◌, ◌^◌, ℕ, length, IfOk, OnOk, IfSome};
+ghost use Rattle.std.specs.Prelude.{◌≡◌, ◌↔◌, ◌+◌, ◌<◌, ◌≤◌, ◌^◌, ℕ, length, IfOk, OnOk, IfSome, IsTrue};
 ghost use Rattle.std.specs.Option.{option_map};
 ghost use Rattle.dm_types.specs.Faults.{HasCause};
 ghost use Rattle.dm_types.specs.declared.kinds.DiskKind.{DiskKind as Kind};
@@ -94,3 +94,13 @@ pub trait Disk {
     /// At each moment no two names share a file, and no file was synced longer than it is.
     ghost sound: { tells → (disk : Self) (t : ℕ) → IsSoundDisk ((history disk).at t) };
 }
+
+/// Whether a range of so many bytes ends at 2^63 or above: such a write is refused.
+pub fn ends_far(at: u64, count: usize) -> bool
+    ensures { IsTrue result ↔ (2 ^ 63 ≤ at + count) }
+{
+    at >= FAR || count as u64 >= FAR - at
+}
+
+/// Each place of a file lies below.
+const FAR: u64 = 1 << 63;
