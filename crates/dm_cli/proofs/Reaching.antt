@@ -11,8 +11,8 @@ use Rattle.dm_edge.specs.Faults.{net_count_of}
 use Rattle.dm_edge.specs.Wire.{Purpose, Told, Closed, closed_of, stream_of}
 use Rattle.dm_disk_model.specs.declared.place.Place.{Place}
 use Rattle.dm_disk_model.specs.Disk.{DiskState, History}
-use Rattle.dm_disk_model.specs.Names.{Throughout}
-use Rattle.dm_disk_model.proofs.Naming.{throughout_weaker}
+use Rattle.dm_disk_model.specs.Moments.{Throughout}
+use Rattle.dm_disk_model.proofs.Reaching.{weaker}
 use Rattle.std.specs.Fmt.{decimal}
 use Rattle.std.specs.Char.{to_ascii_lowercase}
 use Rattle.std.proofs.lemmas.List.{map-append}
@@ -63,9 +63,9 @@ module _ (target : Place) (name : List ℕ) (first : Address) (before between af
 
   -- the stream is that of the last connection
   pub reached_partial : (old new : History) → Throughout old new (NeverPartial target (stream_of now)) → Throughout old new (NeverPartialOf target before after)
-  reached_partial old new all = throughout_weaker old new (NeverPartial target (stream_of now)) (NeverPartialOf target before after) weaker all where
-    weaker : (disk : DiskState) → NeverPartial target (stream_of now) disk → NeverPartialOf target before after disk
-    weaker disk never image leaves = elim (never image leaves) [ inl none ↦ inl none | inr whole ↦ inr (closed_of new_asked now, is_last, whole) ]
+  reached_partial old new all = weaker old new (NeverPartial target (stream_of now)) (NeverPartialOf target before after) one_of all where
+    one_of : (disk : DiskState) → NeverPartial target (stream_of now) disk → NeverPartialOf target before after disk
+    one_of disk never image leaves = elim (never image leaves) [ inl none ↦ inl none | inr whole ↦ inr (closed_of new_asked now, is_last, whole) ]
 
 -- a name of a file is never the part's
 pub apart_places : (name : List ℕ) (part target : Place) → IsName name → part ≡ the_part → target ≡ file_place name → part.name ≢ target.name

@@ -10,8 +10,8 @@ use Rattle.dm_edge.specs.Reply.{IsWhole}
 use Rattle.dm_edge.specs.declared.wanted.Wanted.TheVariants as asks
 use Rattle.dm_disk_model.specs.declared.place.Area.TheVariants.{Files}
 use Rattle.dm_disk_model.specs.declared.place.Place.{Place}
-use Rattle.dm_disk_model.specs.Disk.{DiskState, Image, bytes_at, MayLeave}
-use Rattle.dm_disk_model.specs.Names.{image_at, LeavesJust}
+use Rattle.dm_disk_model.specs.Disk.{DiskState, Image, bytes_at, MayLeave, image_at}
+use Rattle.dm_disk_model.specs.Names.{LeavesJust}
 use Rattle.dm_words.specs.Part.{part_name}
 use Rattle.dm_words.specs.Printed.{complete_line, interrupted_line}
 use Rattle.dm_request.specs.Request.{request_of}

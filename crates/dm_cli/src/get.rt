@@ -3,7 +3,8 @@ ghost use Rattle.std.specs.Prelude.{◌≡◌, ◌≢◌, ◌↔◌, ◌<◌, �
 ghost use Rattle.dm_types.specs.Faults.{HasCause, NoneFell};
 ghost use Rattle.dm_disk_model.specs.Faults.{names_kind};
 ghost use Rattle.dm_disk_model.specs.Disk.{now, bytes_at, Stands};
-ghost use Rattle.dm_disk_model.specs.Names.{NeverStands, LeavesNothingOr, Throughout};
+ghost use Rattle.dm_disk_model.specs.Names.{NeverStands, LeavesNothingOr};
+ghost use Rattle.dm_disk_model.specs.Moments.{Throughout};
 ghost use Rattle.dm_edge.specs.Wire.{stream_of};
 ghost use Rattle.dm_edge.specs.declared.wanted.Wanted.TheVariants as asks;
 ghost use Rattle.dm_reply.specs.Content.{HasRead};

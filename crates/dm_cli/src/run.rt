@@ -1,7 +1,8 @@
 ghost use Rattle.std.specs.Prelude.{◌≡◌, ℕ, List, IfSome, IfNone};
 ghost use Rattle.dm_types.specs.Faults.{NoneFell};
 ghost use Rattle.dm_disk_model.specs.Disk.{now};
-ghost use Rattle.dm_disk_model.specs.Names.{NeverStands, Throughout};
+ghost use Rattle.dm_disk_model.specs.Names.{NeverStands};
+ghost use Rattle.dm_disk_model.specs.Moments.{Throughout};
 ghost use Rattle.dm_words.specs.Command.{IsGet};
 ghost use Rattle.dm_cli.specs.Get.{file_place, NeverPartialOf};
 ghost use Rattle.dm_cli.specs.Run.{RunSays, Completes, Explains, Refused, IsSomeGet};

@@ -2,8 +2,8 @@
 ghost use Rattle.std.specs.Prelude.{◌≡◌, ℕ, List, IfSome, IfNone};
 ghost use Rattle.dm_types.specs.Faults.{NoneFell};
 ghost use Rattle.dm_disk_model.specs.Disk.{now};
-ghost use Rattle.dm_disk_model.specs.Moments.{KeepsFiles, LeavesOnly};
-ghost use Rattle.dm_disk_model.specs.Names.{NeverStands, Throughout};
+ghost use Rattle.dm_disk_model.specs.Moments.{KeepsFiles, LeavesOnly, Throughout};
+ghost use Rattle.dm_disk_model.specs.Names.{NeverStands};
 ghost use Rattle.dm_words.specs.Command.{IsGet};
 ghost use Rattle.dm_words.specs.Listing.{Asks, Listing as Asked, asked};
 ghost use Rattle.dm_list.specs.Ending.{errs_text, HasShown, out_text, status_of};

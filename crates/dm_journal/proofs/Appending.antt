@@ -2,8 +2,7 @@
 use Rattle.std.proofs.Common.{◌≡◌, ◌≢◌, ◌⊎◌, inl, inr, ⊎_elim, ℕ, zero, suc, ◌+◌, ◌-◌, ◌<◌, ◌≤◌, List, [], ◌∷◌, ◌++◌, length, get_or, take, drop, replicate, refl, sym, ◌∙◌, ap, subst, arith, length-append, append_assoc, get_or-take}
 use Rattle.std.proofs.lemmas.List.{take_at, drop_at, drop-drop, ext_get_or, get_or_append_left, get_or-append_right, take-append-drop, length-take-le, get_or_at}
 use Rattle.std.proofs.lemmas.Bool.{cases_eq, cases_order}
-use Rattle.dm_disk_model.specs.File.{File, FileLeaves, IsClean, IsUntouched, SameOutside, IsTorn, IsWritten, overwrite}
-use Rattle.dm_disk_model.specs.Names.{settled_file}
+use Rattle.dm_disk_model.specs.File.{File, FileLeaves, IsClean, IsUntouched, SameOutside, IsTorn, IsWritten, overwrite, settled_file}
 use Rattle.dm_disk_model.proofs.FileBytes.{overwrite_outside}
 use Rattle.dm_journal.specs.Text.{header, FitsCell, in_four, cell, AllFit, front, IsJournalText}
 use Rattle.dm_journal.proofs.Texts.{cells_push, AllFit-push}

@@ -5,9 +5,8 @@ use Rattle.std.specs.Option.{option_map}
 use Rattle.std.specs.Str.{bytes_eq}
 use Rattle.std.proofs.lemmas.Option.{same_Some}
 use Rattle.std.proofs.lemmas.Slice.Eq.{bytes_eq-Decides}
-use Rattle.dm_disk_model.specs.File.{File, FileLeaves, empty_file}
+use Rattle.dm_disk_model.specs.File.{File, FileLeaves, empty_file, settled_file}
 use Rattle.dm_disk_model.specs.Folder.{Folder, Names, Contents, Created, Renamed, Removed, FolderLeaves, NameLeaves, FileSteps, Creates, Changes, EachPrefix, after_changes, with_name, names_of, names_after}
-use Rattle.dm_disk_model.specs.Names.{settled_file}
 use Rattle.dm_disk_model.specs.Disk.{DiskState, Image, MayLeave, IsSoundDisk}
 use Rattle.dm_disk_model.proofs.Images.{file_as_read}
 use Rattle.dm_disk_model.proofs.PendingNames.{each_now, each_more, names_more, with_name_same, with_name_other}

@@ -2,10 +2,9 @@
 use Rattle.std.proofs.Common.{◌≡◌, ◌≢◌, ◌⊎◌, inl, inr, ⊎_elim, ℕ, ◌+◌, List, [], ◌∷◌, ◌++◌, length, drop, Some, IsSome, is_some, Result, Ok, Err, refl, sym, ◌∙◌, ap, subst, arith, length-append, append_assoc}
 use Rattle.dm_disk_model.specs.declared.place.Place.{Place}
 use Rattle.dm_disk_model.specs.declared.place.DiskFault.{DiskFault}
-use Rattle.dm_disk_model.specs.File.{File, IsTorn, IsWritten, IsSynced, overwrite}
+use Rattle.dm_disk_model.specs.File.{File, IsTorn, IsWritten, IsSynced, overwrite, settled_file}
 use Rattle.dm_disk_model.specs.Folder.{Folder, Names, FileSteps, names_of, after_changes}
 use Rattle.dm_disk_model.specs.Firm.{HasFile}
-use Rattle.dm_disk_model.specs.Names.{settled_file}
 use Rattle.dm_disk_model.specs.Moments.{LeavesOnly, KeepsFiles}
 use Rattle.dm_disk_model.specs.Disk.{DiskState, Image, History, Next, now, MayLeave, Stands, WriteStep, SyncStep, bytes_at}
 use Rattle.dm_disk_model.proofs.Places.{write_reads, sync_reads}
@@ -93,10 +92,6 @@ synced disk new bytes reads step =
     let moved = steps disk.state new.state journal_name IsSynced reads.file reads.has step.0 in
     subst (λ (f : File). HasFile new.state journal_name f) (moved.stepped ∙ ap settled_file reads.is) moved.has
 
-sync_failed : (fault : DiskFault) (disk new : DiskState) → SyncStep journal_place (Err fault) disk new → new ≡ disk
-sync_failed fault disk new (inl same) = same
-sync_failed fault disk new (inr same) = same
-
 -- the file still stands
 names_same : (name : List ℕ) (step : File → File → Type 0) (old new : Folder) → FileSteps name step old new → IsSome (names_of new name)
 names_same name step old new taken =
@@ -117,8 +112,7 @@ write_files at piece (Err fault) disk new (inr same) = ap (λ (d : DiskState). d
 
 sync_files : (result : Result (Unit {0}) DiskFault) (disk new : DiskState) → SyncStep journal_place result disk new → new.files ≡ disk.files
 sync_files (Ok done) disk new step = step.1
-sync_files (Err fault) disk new (inl same) = ap (λ (d : DiskState). d.files) same
-sync_files (Err fault) disk new (inr same) = ap (λ (d : DiskState). d.files) same
+sync_files (Err fault) disk new same = ap (λ (d : DiskState). d.files) same
 
 pub keeps_write : (at : ℕ) (piece : List ℕ) (result : Result (Unit {0}) DiskFault) (old new : History) → Next old new (WriteStep journal_place at piece result) → KeepsFiles old new
 keeps_write at piece result old new next =
@@ -202,7 +196,7 @@ module _ (bodies : List (List ℕ)) (body : List ℕ) (start : History) (gate : 
   settle_failed fault old new filled next =
       let good = kept_leaves bodies body (now old) filled.kept in
       joined start old new Good filled.so_far
-      (over_call old new Good (SyncStep journal_place (Err fault)) next good (subst Good (sym (sync_failed fault (now old) (now new) next.stepped)) good))
+      (over_call old new Good (SyncStep journal_place (Err fault)) next good (subst Good (sym next.stepped) good))
 
   pub settle_done : (old new : History) → Filled old → Next old new (SyncStep journal_place (Ok tt)) → Ready new
   settle_done old new filled next =
@@ -250,7 +244,7 @@ module _ (bodies : List (List ℕ)) (body : List ℕ) (start : History) (gate : 
   keep_failed fault old new opened next =
       let good = at_end start old Good opened.so_far in
       joined start old new Good opened.so_far
-      (over_call old new Good (SyncStep journal_place (Err fault)) next good (subst Good (sym (sync_failed fault (now old) (now new) next.stepped)) good))
+      (over_call old new Good (SyncStep journal_place (Err fault)) next good (subst Good (sym next.stepped) good))
 
   pub record Appended (present : History) : Type 0 where
     pub so_far : LeavesOnly start present (WithOrWithout bodies body)

@@ -66,14 +66,12 @@ names_fewer old new image taken left = record {
 sync_images : (result : Result (Unit {0}) DiskFault) (old new : DiskState) → IsSoundDisk old → SyncStep journal_place result old new → (image : Image) → MayLeave new image → MayLeave old image
 sync_images (Ok done) old new sound step image left =
     record { state = sync_fewer old.state new.state journal_name image.state sound.state step.0 left.state; files = subst (λ (f : Folder). FolderLeaves f image.files) step.1 left.files }
-sync_images (Err fault) old new sound (inl same) image left = subst (λ (d : DiskState). MayLeave d image) same left
-sync_images (Err fault) old new sound (inr same) image left = subst (λ (d : DiskState). MayLeave d image) same left
+sync_images (Err fault) old new sound same image left = subst (λ (d : DiskState). MayLeave d image) same left
 
 names_images : (result : Result (Unit {0}) DiskFault) (old new : DiskState) → SyncNamesStep State result old new → (image : Image) → MayLeave new image → MayLeave old image
 names_images (Ok done) old new step image left =
     record { state = names_fewer old.state new.state image.state step.0 left.state; files = subst (λ (f : Folder). FolderLeaves f image.files) step.1 left.files }
-names_images (Err fault) old new (inl same) image left = subst (λ (d : DiskState). MayLeave d image) same left
-names_images (Err fault) old new (inr same) image left = subst (λ (d : DiskState). MayLeave d image) same left
+names_images (Err fault) old new same image left = subst (λ (d : DiskState). MayLeave d image) same left
 
 -- all places read as before
 sync_contents : (old new : Folder) (name : List ℕ) → FileSteps name IsSynced old new → (other : List ℕ) → contents_of new other ≡ contents_of old other
@@ -98,19 +96,16 @@ sync_places (Ok done) old new step place = by_area place.area place.name
     by_area : (area : Area) (name : List ℕ) → contents_of (folder_in area new) name ≡ contents_of (folder_in area old) name
     by_area State name = sync_contents old.state new.state journal_name step.0 name
     by_area Files name = ap (λ (f : Folder). contents_of f name) step.1
-sync_places (Err fault) old new (inl same) place = ap (λ (d : DiskState). bytes_at d place) same
-sync_places (Err fault) old new (inr same) place = ap (λ (d : DiskState). bytes_at d place) same
+sync_places (Err fault) old new same place = ap (λ (d : DiskState). bytes_at d place) same
 
 -- the user's files stay
 sync_files : (result : Result (Unit {0}) DiskFault) (old new : DiskState) → SyncStep journal_place result old new → new.files ≡ old.files
 sync_files (Ok done) old new step = step.1
-sync_files (Err fault) old new (inl same) = ap (λ (d : DiskState). d.files) same
-sync_files (Err fault) old new (inr same) = ap (λ (d : DiskState). d.files) same
+sync_files (Err fault) old new same = ap (λ (d : DiskState). d.files) same
 
 names_files : (result : Result (Unit {0}) DiskFault) (old new : DiskState) → SyncNamesStep State result old new → new.files ≡ old.files
 names_files (Ok done) old new step = step.1
-names_files (Err fault) old new (inl same) = ap (λ (d : DiskState). d.files) same
-names_files (Err fault) old new (inr same) = ap (λ (d : DiskState). d.files) same
+names_files (Err fault) old new same = ap (λ (d : DiskState). d.files) same
 
 -- a call that is a sync
 syncs_step : (old new : History) (step : DiskState → DiskState → Type 0) → Next old new step → ((image : Image) → MayLeave (now new) image → MayLeave (now old) image)

@@ -3,7 +3,8 @@ use Rattle.std.proofs.Common.{◌≡◌, ℕ, List, length, None, refl, sym, ◌
 use Rattle.std.proofs.lemmas.Option.{same_Some}
 use Rattle.dm_disk_model.specs.Folder.{Folder}
 use Rattle.dm_disk_model.specs.Firm.{HasFile}
-use Rattle.dm_disk_model.specs.Names.{NeverStands, settled_file}
+use Rattle.dm_disk_model.specs.Names.{NeverStands}
+use Rattle.dm_disk_model.specs.File.{settled_file}
 use Rattle.dm_disk_model.specs.Disk.{DiskState, Image, MayLeave, Stands, StandsNot, IsSoundDisk, reading}
 use Rattle.dm_disk_model.proofs.PendingNames.{each_now}
 use Rattle.dm_disk_model.proofs.FirmNames.{has_left, has_now}

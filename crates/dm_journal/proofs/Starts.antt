@@ -3,11 +3,11 @@ use Rattle.std.proofs.Common.{◌≡◌, inl, inr, [], Some, None, Result, Ok, E
 use Rattle.std.specs.Result.{IsErr}
 use Rattle.dm_disk_model.specs.declared.place.Area.TheVariants.{State}
 use Rattle.dm_disk_model.specs.declared.place.DiskFault.{DiskFault}
-use Rattle.dm_disk_model.specs.File.{File, IsWritten, IsTorn, IsSynced, empty_file, overwrite}
+use Rattle.dm_disk_model.specs.File.{File, IsWritten, IsTorn, IsSynced, empty_file, overwrite, settled_file}
 use Rattle.dm_disk_model.specs.Folder.{Names, Removed, Renamed, with_name, names_of}
 use Rattle.dm_disk_model.specs.Firm.{HasFile}
-use Rattle.dm_disk_model.specs.Names.{Throughout, NeverStands, settled_file}
-use Rattle.dm_disk_model.specs.Moments.{Reached, LeavesOnly, KeepsFiles}
+use Rattle.dm_disk_model.specs.Names.{NeverStands}
+use Rattle.dm_disk_model.specs.Moments.{Throughout, Reached, LeavesOnly, KeepsFiles}
 use Rattle.dm_disk_model.specs.Disk.{DiskState, Image, History, Next, MayLeave, IsSoundDisk, StandsNot, CreateStep, WriteStep, SyncStep, RenameStep, RemoveStep, SyncNamesStep, now}
 use Rattle.dm_disk_model.proofs.PendingNames.{names_more, with_name_same}
 use Rattle.dm_disk_model.proofs.FirmNames.{has_after_sync, none_left}
@@ -94,8 +94,7 @@ module _ (start : History) (sound : IsSoundDisk (now start)) where
   syncs (Err fault) old new so_far next = fails (HasSpare (now start) is_filled) (SyncStep spare_place (Err fault)) old new so_far next (by (now new) next.stepped)
     where
       by : (disk : DiskState) → SyncStep spare_place (Err fault) (now old) disk → Shows (now start) disk
-      by disk (inl same) = same_shows (HasSpare (now start) is_filled) old disk so_far same
-      by disk (inr same) = same_shows (HasSpare (now start) is_filled) old disk so_far same
+      by disk same = same_shows (HasSpare (now start) is_filled) old disk so_far same
 
   pub renames : (result : Result (Unit {0}) DiskFault) (old new : History) → Reached start old (Shows (now start)) (HasSpare (now start) IsBlank) → Next old new (RenameStep spare_place journal_place result)
       → Comes start new (IsNamed (now start)) result
@@ -133,8 +132,7 @@ module _ (start : History) (sound : IsSoundDisk (now start)) where
   names (Err fault) old new so_far next = fails (IsNamed (now start)) (SyncNamesStep State (Err fault)) old new so_far next (by (now new) next.stepped)
     where
       by : (disk : DiskState) → SyncNamesStep State (Err fault) (now old) disk → Shows (now start) disk
-      by disk (inl same) = same_shows (IsNamed (now start)) old disk so_far same
-      by disk (inr same) = same_shows (IsNamed (now start)) old disk so_far same
+      by disk same = same_shows (IsNamed (now start)) old disk so_far same
 
 -- what was removed doesn't stand
 pub removed_stands_not : (result : Result (Unit {0}) DiskFault) (old new : DiskState) → RemoveStep spare_place result old new → OnOk result (StandsNot new spare_place)

@@ -3,7 +3,7 @@ use Rattle.std.specs.Prelude.{◌≡◌, ◌⊎◌, ℕ, List, [], ◌∷◌, �
 use Rattle.dm_disk_model.specs.declared.place.Area.TheVariants.{State}
 use Rattle.dm_disk_model.specs.declared.place.Place.{Place}
 use Rattle.dm_disk_model.specs.Firm.{HasFile}
-use Rattle.dm_disk_model.specs.Names.{settled_file}
+use Rattle.dm_disk_model.specs.File.{settled_file}
 use Rattle.dm_disk_model.specs.Disk.{DiskState, Image, bytes_at}
 use Rattle.dm_journal.specs.Text.{IsJournalText, front, in_four}
 

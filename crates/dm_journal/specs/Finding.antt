@@ -3,7 +3,8 @@ use Rattle.std.specs.Prelude.{◌≡◌, ◌⊎◌, ℕ, ◌^◌, ◌<◌, List,
 use Rattle.dm_disk_model.specs.declared.place.Place.{Place}
 use Rattle.dm_disk_model.specs.declared.place.DiskFault.{DiskFault}
 use Rattle.dm_disk_model.specs.Firm.{HasFile}
-use Rattle.dm_disk_model.specs.Names.{NeverStands, settled_file}
+use Rattle.dm_disk_model.specs.Names.{NeverStands}
+use Rattle.dm_disk_model.specs.File.{settled_file}
 use Rattle.dm_disk_model.specs.Moments.{LeavesOnly, KeepsFiles}
 use Rattle.dm_disk_model.specs.Disk.{DiskState, History, MayLeave, StandsNot, bytes_at, now}
 use Rattle.dm_journal.specs.Text.{IsDamagedAt, IsJournalText, front}

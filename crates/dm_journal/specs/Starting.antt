@@ -3,10 +3,9 @@ use Rattle.std.specs.Prelude.{◌≡◌, ◌≢◌, ◌⊎◌, ℕ, List, [], �
 use Rattle.dm_disk_model.specs.declared.place.Area.TheVariants.{State}
 use Rattle.dm_disk_model.specs.declared.place.Place.{Place}
 use Rattle.dm_disk_model.specs.declared.place.DiskFault.{DiskFault}
-use Rattle.dm_disk_model.specs.File.{File}
+use Rattle.dm_disk_model.specs.File.{File, settled_file}
 use Rattle.dm_disk_model.specs.Folder.{Folder, EachPrefix, names_of, names_after}
-use Rattle.dm_disk_model.specs.Names.{Throughout, settled_file}
-use Rattle.dm_disk_model.specs.Moments.{Reached}
+use Rattle.dm_disk_model.specs.Moments.{Throughout, Reached}
 use Rattle.dm_disk_model.specs.Disk.{DiskState, Image, History, MayLeave, now}
 use Rattle.dm_journal.specs.Text.{header}
 use Rattle.dm_journal.specs.AtRest.{journal_name, HasJournal}

@@ -2,8 +2,8 @@
 use Rattle.std.proofs.Common.{inl, inr, ℕ, List, [], ◌∷◌, ◌++◌, Option, refl, sym, subst}
 use Rattle.dm_types.specs.declared.entry.Entry.{Entry}
 use Rattle.dm_disk_model.specs.Disk.{DiskState, Image, IsSoundDisk, MayLeave, History as Clock, Stands, reading}
-use Rattle.dm_disk_model.specs.Moments.{LeavesOnly}
-use Rattle.dm_disk_model.specs.Names.{Throughout, settled_file}
+use Rattle.dm_disk_model.specs.Moments.{LeavesOnly, Throughout}
+use Rattle.dm_disk_model.specs.File.{settled_file}
 use Rattle.dm_disk_model.proofs.FirmNames.{has_left, has_now}
 use Rattle.dm_disk_model.proofs.Images.{as_read}
 use Rattle.dm_disk_model.proofs.Places.{stands_from}

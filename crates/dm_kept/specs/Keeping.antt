@@ -1,7 +1,7 @@
 -- What a call on a desk did, at each of its moments.
 use Rattle.std.specs.Prelude.{◌++◌}
 use Rattle.dm_disk_model.specs.Disk.{History as Clock}
-use Rattle.dm_disk_model.specs.Names.{Throughout}
+use Rattle.dm_disk_model.specs.Moments.{Throughout}
 use Rattle.dm_item.specs.Lawful.{History}
 use Rattle.dm_kept.specs.Recovery.{Kept, Through}
 

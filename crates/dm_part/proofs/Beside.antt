@@ -68,8 +68,7 @@ module _ (says : ℕ → ℕ → Type 0) (claim : Claim) (result : Result (Unit 
 pub names_beside : (says : ℕ → ℕ → Type 0) (claim : Claim) (area : Area) (result : Result (Unit {0}) DiskFault) (old new : DiskState) → Held says old.files claim → SyncNamesStep area result old new → Held says new.files claim
 names_beside says claim Files result old new held taken = names_among_files says claim result old new held taken
 names_beside says claim State (Ok done) old new held taken = subst (λ (folder : Folder). Held says folder claim) (sym taken.1) held
-names_beside says claim State (Err fault) old new held (inl same) = subst (λ (disk : DiskState). Held says disk.files claim) (sym same) held
-names_beside says claim State (Err fault) old new held (inr same) = subst (λ (disk : DiskState). Held says disk.files claim) (sym same) held
+names_beside says claim State (Err fault) old new held same = subst (λ (disk : DiskState). Held says disk.files claim) (sym same) held
 
 -- the same of the shortness of a part
 module _ (part : List ℕ) (total : Option ℕ) (result : Result (Unit {0}) DiskFault) (old new : DiskState) (short : IsShort part total old.files) where
@@ -109,8 +108,7 @@ module _ (part : List ℕ) (total : Option ℕ) (result : Result (Unit {0}) Disk
 pub names_short : (part : List ℕ) (total : Option ℕ) (area : Area) (result : Result (Unit {0}) DiskFault) (old new : DiskState) → IsShort part total old.files → SyncNamesStep area result old new → IsShort part total new.files
 names_short part total Files result old new short taken = short_among_files part total result old new short taken
 names_short part total State (Ok done) old new short taken = subst (IsShort part total) (sym taken.1) short
-names_short part total State (Err fault) old new short (inl same) = subst (λ (disk : DiskState). IsShort part total disk.files) (sym same) short
-names_short part total State (Err fault) old new short (inr same) = subst (λ (disk : DiskState). IsShort part total disk.files) (sym same) short
+names_short part total State (Err fault) old new short same = subst (λ (disk : DiskState). IsShort part total disk.files) (sym same) short
 
 -- at each moment
 pub claim_left : (test : ℕ → ℕ → Bool) (claim : Claim) → LeftByOthers (IsOther claim) (HoldsOn test claim)

@@ -8,7 +8,7 @@ use Rattle.dm_disk_model.specs.declared.place.DiskFault.{DiskFault}
 use Rattle.dm_disk_model.specs.File.{IsWritten, IsTorn}
 use Rattle.dm_disk_model.specs.Folder.{Folder, Names, Change, Renamed, Removed, after_change, FileSteps, Changes, names_of, with_name}
 use Rattle.dm_disk_model.specs.Disk.{DiskState, History, Stands, now, CreateStep, WriteStep, SyncStep, RenameStep, RemoveStep, SyncNamesStep}
-use Rattle.dm_disk_model.specs.Names.{Throughout}
+use Rattle.dm_disk_model.specs.Moments.{Throughout}
 use Rattle.dm_disk_model.proofs.PendingNames.{names_more, with_name_same}
 use Rattle.dm_part.specs.Keeping.{Going, Moving, Published, Claim, Held, IsShort, IsFree, Lands, IsEmpty}
 use Rattle.dm_part.specs.Laws.{files_place, landed, settled}
@@ -50,8 +50,7 @@ module _ (says : ℕ → ℕ → Type 0) (claim : Claim) where
   pub settle_held : (saved : List Slice) (result : Result (Unit {0}) DiskFault) (old new : DiskState) → claim.stage ≡ Going → Holds claim.live saved
       → Held says old.files claim → SyncStep (files_place claim.part) result old new → Held says new.files (settled result saved claim)
   settle_held saved (Ok done) old new going holds held taken = held_saved says old.files new.files claim going held saved holds taken.0
-  settle_held saved (Err fault) old new going holds held (inl same) = subst (λ (disk : DiskState). Held says disk.files claim) (sym same) held
-  settle_held saved (Err fault) old new going holds held (inr same) = subst (λ (disk : DiskState). Held says disk.files claim) (sym same) held
+  settle_held saved (Err fault) old new going holds held same = subst (λ (disk : DiskState). Held says disk.files claim) (sym same) held
 
   -- a sync alone leaves the claim
   pub settle_keeps : (result : Result (Unit {0}) DiskFault) (old new : DiskState) → claim.stage ≡ Going → Held says old.files claim → SyncStep (files_place claim.part) result old new → Held says new.files claim

@@ -7,10 +7,12 @@ use Rattle.dm_disk_model.specs.declared.place.DiskFault.{DiskFault}
 use Rattle.dm_disk_model.specs.File.{File, IsWritten, IsSynced}
 use Rattle.dm_disk_model.specs.Folder.{FileSteps}
 use Rattle.dm_disk_model.specs.Disk.{DiskState, History, Next, InArea, Stands, WriteStep, SyncStep, now, bytes_at, CreateStep, RemoveStep, RenameStep, SyncNamesStep}
-use Rattle.dm_disk_model.specs.Names.{IsSettled, NeverStands, LeavesNothing, LeavesNothingOr, LeavesJust, Throughout}
+use Rattle.dm_disk_model.specs.Names.{IsSettled, NeverStands, LeavesNothing, LeavesNothingOr, LeavesJust}
+use Rattle.dm_disk_model.specs.Moments.{Throughout}
 use Rattle.dm_disk_model.proofs.Reading.{stepped_reads}
 use Rattle.dm_disk_model.proofs.Places.{in_folder, stands_from, create_reads, remove_reads, rename_reads, rename_others, rename_may, names_reads}
-use Rattle.dm_disk_model.proofs.Naming.{given_rename, given_names_synced, given_leaves, absent_leaves, just_published, throughout_start, throughout_next}
+use Rattle.dm_disk_model.proofs.Naming.{given_rename, given_names_synced, given_leaves, absent_leaves, just_published}
+use Rattle.dm_disk_model.proofs.Reaching.{at_start, over_next}
 use Rattle.dm_part.specs.Publish.{Moves}
 
 module _ (part target : Place) (one_area : target.area ≡ part.area) (differ : part.name ≢ target.name) where
@@ -35,10 +37,10 @@ module _ (part target : Place) (one_area : target.area ≡ part.area) (file : Li
   nothing_or disk nothing image leaves = inl (nothing image leaves)
 
   at_start : Throughout old old (LeavesNothingOr target file)
-  at_start = throughout_start old (LeavesNothingOr target file) (nothing_or (now old) (absent_leaves target (now old) absent))
+  at_start = at_start old (LeavesNothingOr target file) (nothing_or (now old) (absent_leaves target (now old) absent))
 
   pub whole_refused : (fault : DiskFault) (new : History) → Next old new (RenameStep part target (Err fault)) → Throughout old new (LeavesNothingOr target file)
-  whole_refused fault new next = throughout_next old old new (LeavesNothingOr target file) (RenameStep part target (Err fault)) at_start next (by_step (now new) next.stepped) where
+  whole_refused fault new next = over_next old old new (LeavesNothingOr target file) (RenameStep part target (Err fault)) at_start next (by_step (now new) next.stepped) where
     by_step : (disk : DiskState) → RenameStep part target (Err fault) (now old) disk → LeavesNothingOr target file disk
     by_step disk (inl taken) = given_leaves target file disk (given_rename part target file (now old) disk one_area settled absent taken)
     by_step disk (inr same) = subst (LeavesNothingOr target file) (sym same) (nothing_or (now old) (absent_leaves target (now old) absent))
@@ -46,8 +48,8 @@ module _ (part target : Place) (one_area : target.area ≡ part.area) (file : Li
   pub whole_done : (area : Area) (result : Result (Unit {0}) DiskFault) (mid new : History) → Next old mid (RenameStep part target (Ok tt)) → Next mid new (SyncNamesStep area result) → Throughout old new (LeavesNothingOr target file)
   whole_done area result mid new renamed synced =
       let given = given_rename part target file (now old) (now mid) one_area settled absent renamed.stepped in
-      throughout_next old mid new (LeavesNothingOr target file) (SyncNamesStep area result)
-      (throughout_next old old mid (LeavesNothingOr target file) (RenameStep part target (Ok tt)) at_start renamed (given_leaves target file (now mid) given))
+      over_next old mid new (LeavesNothingOr target file) (SyncNamesStep area result)
+      (over_next old old mid (LeavesNothingOr target file) (RenameStep part target (Ok tt)) at_start renamed (given_leaves target file (now mid) given))
       synced (given_leaves target file (now new) (given_names_synced target file area result (now mid) (now new) synced.stepped given))
 
 -- what reads after a call, by its answer

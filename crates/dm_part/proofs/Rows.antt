@@ -3,7 +3,7 @@ use Rattle.std.proofs.Common.{◌≡◌, inl, inr, ℕ, zero, suc, ◌<◌, ◌�
 use Rattle.std.proofs.lemmas.Bool.{false≢true}
 use Rattle.std.proofs.lemmas.Option.{same_Some, none-some}
 use Rattle.dm_disk_model.specs.Folder.{Renamed, EachPrefix}
-use Rattle.dm_disk_model.specs.Names.{settled_file}
+use Rattle.dm_disk_model.specs.File.{settled_file}
 use Rattle.dm_disk_model.proofs.PendingNames.{each_more, each_synced}
 use Rattle.dm_slice.specs.Words.{HasByte}
 use Rattle.dm_part.specs.Keeping.{Stage, Going, Moving, LiesAt, FoundAt, IsContent, IsWhole, IsSaid, IsAtMost, Filed, IsShort}

@@ -2,9 +2,9 @@
 use Rattle.std.proofs.Common.{◌≡◌, inl, inr, Result, Ok, Err, sym, subst}
 use Rattle.dm_disk_model.specs.declared.place.DiskFault.{DiskFault}
 use Rattle.dm_disk_model.specs.Folder.{Folder}
-use Rattle.dm_disk_model.specs.Disk.{DiskState, History, Next, now, Done, InArea}
+use Rattle.dm_disk_model.specs.Disk.{DiskState, History, Next, now, Done, DoneWhole, InArea}
 use Rattle.dm_disk_model.specs.declared.place.Area.TheVariants.{Files}
-use Rattle.dm_disk_model.specs.Names.{Throughout}
+use Rattle.dm_disk_model.specs.Moments.{Throughout}
 use Rattle.dm_disk_model.proofs.Reaching.{over_call, joined}
 use Rattle.dm_part.specs.Runs.{Call, Twice, InTurn}
 
@@ -39,7 +39,6 @@ after_call P step begun (Err fault) old new keeps keeps_begun before (inr same) 
 
 -- the same of a call that changes nothing where it fails
 pub after_whole : (P : Folder → Type 0) (step : Folder → Folder → Type 0) (result : Result (Unit {0}) DiskFault) (old new : DiskState) → ((folder : Folder) → step old.files folder → P folder)
-    → P old.files → Done (InArea Files step) (λ before after. after ≡ before) result old new → P new.files
+    → P old.files → DoneWhole (InArea Files step) result old new → P new.files
 after_whole P step (Ok done) old new keeps before taken = keeps new.files taken.0
-after_whole P step (Err fault) old new keeps before (inl same) = subst (λ (disk : DiskState). P disk.files) (sym same) before
-after_whole P step (Err fault) old new keeps before (inr same) = subst (λ (disk : DiskState). P disk.files) (sym same) before
+after_whole P step (Err fault) old new keeps before same = subst (λ (disk : DiskState). P disk.files) (sym same) before

@@ -4,9 +4,8 @@ use Rattle.std.specs.Prelude.{◌≡◌, ◌⊎◌, ℕ, ◌+◌, ◌<◌, ◌�
 use Rattle.sha2.specs.Sha256.{sha256}
 use Rattle.dm_types.specs.declared.slices.Slice.{Slice}
 use Rattle.dm_slice.specs.Words.{HasByte, Holds, IsFull}
-use Rattle.dm_disk_model.specs.File.{File, IsClean}
+use Rattle.dm_disk_model.specs.File.{File, IsClean, settled_file}
 use Rattle.dm_disk_model.specs.Folder.{Names, Folder, Contents, EachPrefix, contents_of}
-use Rattle.dm_disk_model.specs.Names.{settled_file}
 
 -- how far an item is: its content comes into the part; all of it is there, and the part is given its name; it stands under its name
 pub data Stage : Type 0 where

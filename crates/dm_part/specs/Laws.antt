@@ -10,8 +10,7 @@ use Rattle.dm_disk_model.specs.declared.place.DiskFault.{DiskFault}
 use Rattle.dm_disk_model.specs.File.{File}
 use Rattle.dm_disk_model.specs.Firm.{HasFile}
 use Rattle.dm_disk_model.specs.Disk.{DiskState, Image, History, Next, MayLeave, IsSoundDisk, Stands, StandsNot, bytes_at, now, CreateStep, WriteStep, SyncStep, RenameStep, RemoveStep, SyncNamesStep}
-use Rattle.dm_disk_model.specs.Names.{Throughout}
-use Rattle.dm_disk_model.specs.Moments.{KeepsFiles}
+use Rattle.dm_disk_model.specs.Moments.{Throughout, KeepsFiles}
 use Rattle.dm_part.specs.Keeping.{Stage, Going, Moving, Published, Claim, Held, SoundOf, Begins, IsShort, IsShortIn, IsSaid, IsAtMost, IsContent, Lands, IsEmpty}
 use Rattle.dm_part.specs.Runs.{InTurn}
 

@@ -1,7 +1,7 @@
 -- Worked rows: what the origin says is `abc`, the part is `p`, and the name is `n`.
 use Rattle.std.specs.Prelude.{ℕ, Bool, nat_eq, List, [], ◌∷◌, slice_index, codes, Some, None, false, if◌then◌else◌, bytes_eq}
 use Rattle.dm_types.specs.declared.slices.Slice.{Slice}
-use Rattle.dm_disk_model.specs.Names.{settled_file}
+use Rattle.dm_disk_model.specs.File.{settled_file}
 use Rattle.dm_disk_model.specs.Folder.{Folder, Contents, Renamed, no_names, with_name}
 use Rattle.dm_part.specs.Keeping.{Stage, Going, Moving, Claim, Held, SoundOf, IsShort}
 use Rattle.dm_part.specs.Laws.{by_test}

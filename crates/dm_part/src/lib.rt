@@ -6,7 +6,8 @@ ghost use Rattle.dm_types.specs.Faults.{HasCause};
 ghost use Rattle.dm_disk_model.specs.Faults.{disk_kind, CountsFar};
 ghost use Rattle.dm_disk_model.specs.File.{overwrite};
 ghost use Rattle.dm_disk_model.specs.Disk.{now, Next, Stands, bytes_at, WriteStep, SyncStep, RenameStep, RemoveStep, SyncNamesStep};
-ghost use Rattle.dm_disk_model.specs.Names.{KeepsOthers, IsSettled, NeverStands, LeavesNothingOr, LeavesJust, Throughout};
+ghost use Rattle.dm_disk_model.specs.Names.{IsSettled, NeverStands, LeavesNothingOr, LeavesJust};
+ghost use Rattle.dm_disk_model.specs.Moments.{KeepsOthers, Throughout};
 ghost use Rattle.dm_part.specs.Publish.{Moves};
 ghost use Rattle.dm_part.specs.Runs.{InTurn};
 

@@ -3,7 +3,7 @@ ghost use Rattle.dm_types.specs.Faults.{HasCause};
 ghost use Rattle.dm_words.specs.Part as part;
 ghost use Rattle.dm_disk_model.specs.Disk.{now, StandsNot, bytes_at};
 ghost use Rattle.dm_disk_model.specs.declared.place.Area.TheVariants.{Files};
-ghost use Rattle.dm_disk_model.specs.Names.{KeepsOthers};
+ghost use Rattle.dm_disk_model.specs.Moments.{KeepsOthers};
 ghost use Rattle.dm_part.specs.Making.{make_kind, part_place, Makes};
 
 use dm_disk_model::{Area, Disk, Place};

@@ -1,7 +1,7 @@
 use Rattle.std.proofs.Common.{◌≡◌, ◌-◌, ◌<◌, ◌≤◌, [], length, None}
 use Rattle.dm_types.specs.Faults.{NoneFell}
 use Rattle.dm_disk_model.specs.Disk.{now, Stands}
-use Rattle.dm_disk_model.specs.Names.{KeepsOthers}
+use Rattle.dm_disk_model.specs.Moments.{KeepsOthers}
 use Rattle.dm_edge.specs.Begins.{most_content}
 use Rattle.dm_reply.specs.Content.{HasRead}
 use Rattle.dm_edge.specs.declared.wanted.Wanted.TheVariants as asks

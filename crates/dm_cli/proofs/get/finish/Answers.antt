@@ -1,5 +1,5 @@
 use Rattle.dm_disk_model.specs.Names.{NeverStands, LeavesNothingOr}
-use Rattle.dm_disk_model.proofs.Keeping.{throughout_join, throughout_now}
+use Rattle.dm_disk_model.proofs.Reaching.{joined, at_end}
 use Rattle.dm_cli.proofs.Publishing.{never_so_far, nothing_so_far}
 use Rattle.dm_cli.proofs.get.finish.Goals as goal
 
@@ -13,18 +13,18 @@ returns-in-Ok-publish-clause-partial g c tells content held absent =
     let history = g.D.Disk.history in
     let keeps = c.settle.ensures.keeps tells in
     let settled = c.in-Ok.ensures.settled tells content held in
-    throughout_join (history c.args.disk.now) (history c.settle.new.disk) (history c.publish.new.disk) (LeavesNothingOr c.args.target.now content)
+    joined (history c.args.disk.now) (history c.settle.new.disk) (history c.publish.new.disk) (LeavesNothingOr c.args.target.now content)
     (nothing_so_far c.args.part.now c.args.target.now c.requires.apart (history c.args.disk.now) (history c.settle.new.disk) keeps absent content)
-    (c.publish.ensures.whole tells content settled.0 (throughout_now _ _ (NeverStands c.args.target.now) (never_so_far c.args.part.now c.args.target.now c.requires.apart (history c.args.disk.now) (history c.settle.new.disk) keeps absent)))
+    (c.publish.ensures.whole tells content settled.0 (at_end _ _ (NeverStands c.args.target.now) (never_so_far c.args.part.now c.args.target.now c.requires.apart (history c.args.disk.now) (history c.settle.new.disk) keeps absent)))
 
 pub returns-in-Err-publish-clause-partial : goal.returns-in-Err-publish-clause-partial
 returns-in-Err-publish-clause-partial g c tells content held absent =
     let history = g.D.Disk.history in
     let keeps = c.settle.ensures.keeps tells in
     let settled = c.in-Ok.ensures.settled tells content held in
-    throughout_join (history c.args.disk.now) (history c.settle.new.disk) (history c.publish.new.disk) (LeavesNothingOr c.args.target.now content)
+    joined (history c.args.disk.now) (history c.settle.new.disk) (history c.publish.new.disk) (LeavesNothingOr c.args.target.now content)
     (nothing_so_far c.args.part.now c.args.target.now c.requires.apart (history c.args.disk.now) (history c.settle.new.disk) keeps absent content)
-    (c.publish.ensures.whole tells content settled.0 (throughout_now _ _ (NeverStands c.args.target.now) (never_so_far c.args.part.now c.args.target.now c.requires.apart (history c.args.disk.now) (history c.settle.new.disk) keeps absent)))
+    (c.publish.ensures.whole tells content settled.0 (at_end _ _ (NeverStands c.args.target.now) (never_so_far c.args.part.now c.args.target.now c.requires.apart (history c.args.disk.now) (history c.settle.new.disk) keeps absent)))
 
 pub returns-in-Err-complete_line-clause-partial : goal.returns-in-Err-complete_line-clause-partial
 returns-in-Err-complete_line-clause-partial g c tells content held absent =

@@ -2,7 +2,8 @@ use Rattle.std.proofs.Common.{sym, ◌∙◌, ap, subst}
 use Rattle.dm_types.specs.declared.address.Address.{Address}
 use Rattle.dm_disk_model.specs.declared.place.Place.{Place}
 use Rattle.dm_disk_model.specs.Disk.{now}
-use Rattle.dm_disk_model.specs.Names.{NeverStands, Throughout}
+use Rattle.dm_disk_model.specs.Names.{NeverStands}
+use Rattle.dm_disk_model.specs.Moments.{Throughout}
 use Rattle.dm_cli.specs.Get.{file_place, the_part, GetSays, NeverPartialOf, LeavesOthers}
 use Rattle.dm_cli.proofs.Reaching.{apart_places}
 use Rattle.dm_cli.proofs.Stopping.{nothing_asked}

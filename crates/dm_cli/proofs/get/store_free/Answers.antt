@@ -2,7 +2,8 @@ use Rattle.std.proofs.Common.{sym, ap, arith}
 use Rattle.dm_disk_model.specs.declared.place.Place.{Place}
 use Rattle.dm_disk_model.specs.Disk.{now}
 use Rattle.dm_disk_model.specs.Names.{NeverStands}
-use Rattle.dm_disk_model.proofs.Keeping.{keeps_then, throughout_join, throughout_now}
+use Rattle.dm_disk_model.proofs.Keeping.{keeps_then}
+use Rattle.dm_disk_model.proofs.Reaching.{joined, at_end}
 use Rattle.dm_cli.specs.Causes.{OnWire}
 use Rattle.dm_cli.specs.Get.{NeverPartial}
 use Rattle.dm_cli.proofs.Causing.{stop_says, finish_says}
@@ -31,10 +32,10 @@ returns-in-Ok-copy_content-clause-partial g c tells_disk tells_wire read absent 
     let never = never_so_far c.args.part.now c.args.target.now c.requires.apart (history c.args.disk.now) (history c.copy_content.new.disk)
     (keeps_then c.args.part.now _ (history c.make.new.disk) _ (c.make.ensures.keeps tells_disk) (c.copy_content.ensures.keeps tells_disk)) absent in
     let copied = c.in-Ok-copy_content.ensures.says tells_disk tells_wire read in
-    throughout_join (history c.args.disk.now) (history c.copy_content.new.disk) (history c.finish.new.disk) (NeverPartial c.args.target.now stream)
+    joined (history c.args.disk.now) (history c.copy_content.new.disk) (history c.finish.new.disk) (NeverPartial c.args.target.now stream)
     (never_partial c.args.target.now stream _ _ never)
     (whole_or_nothing c.args.target.now stream copied.0 _ _ copied.1.whole
-    (c.finish.ensures.partial tells_disk copied.0 copied.1.written (throughout_now _ _ (NeverStands c.args.target.now) never)))
+    (c.finish.ensures.partial tells_disk copied.0 copied.1.written (at_end _ _ (NeverStands c.args.target.now) never)))
 
 pub returns-in-Err-copy_content-clause-says : goal.returns-in-Err-copy_content-clause-says
 returns-in-Err-copy_content-clause-says g c tells_disk tells_wire read free =

@@ -1,7 +1,8 @@
 use Rattle.std.proofs.Common.{subst}
 use Rattle.dm_disk_model.specs.declared.place.Place.{Place}
 use Rattle.dm_disk_model.specs.Disk.{now}
-use Rattle.dm_disk_model.specs.Names.{NeverStands, Throughout}
+use Rattle.dm_disk_model.specs.Names.{NeverStands}
+use Rattle.dm_disk_model.specs.Moments.{Throughout}
 use Rattle.dm_cli.specs.Get.{NeverPartialOf}
 use Rattle.dm_cli.proofs.Running.{ran_says, same_file}
 use Rattle.dm_cli.proofs.run.run.Goals as goal

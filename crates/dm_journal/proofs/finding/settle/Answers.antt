@@ -1,10 +1,8 @@
 use Rattle.std.proofs.Common.{◌≡◌, Ok, Err, length, sym, ◌∙◌, subst}
 use Rattle.std.specs.Option.{option_map}
-use Rattle.dm_disk_model.specs.Disk.{bytes_at}
+use Rattle.dm_disk_model.specs.Disk.{bytes_at, History, now, SyncStep, StandsNot}
 use Rattle.dm_disk_model.proofs.Standing.{stands_not_if_none}
-use Rattle.dm_disk_model.specs.Disk.{History, now, SyncStep}
 use Rattle.dm_disk_model.specs.declared.place.Place.{Place}
-use Rattle.dm_disk_model.specs.Disk.{StandsNot}
 use Rattle.dm_disk_model.specs.Names.{NeverStands}
 use Rattle.dm_journal.specs.AtRest.{journal_place}
 use Rattle.dm_journal.proofs.Settling.{settled_stands, settled_missing}

@@ -1,7 +1,7 @@
 use Rattle.std.proofs.Common.{List, ℕ, Ok, Err, ◌∙◌, subst}
 use Rattle.dm_disk_model.specs.declared.place.Area.TheVariants.{Files}
 use Rattle.dm_disk_model.specs.Disk.{now}
-use Rattle.dm_disk_model.specs.Names.{KeepsOthers}
+use Rattle.dm_disk_model.specs.Moments.{KeepsOthers}
 use Rattle.dm_disk_model.proofs.Keeping.{keeps_then, keeps_create, keeps_names}
 use Rattle.dm_disk_model.proofs.Places.{create_reads, names_reads}
 use Rattle.dm_part.specs.Laws.{files_place}
