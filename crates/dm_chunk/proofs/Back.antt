@@ -2,7 +2,8 @@
 use Rattle.std.proofs.Common.{◌≡◌, ℕ, zero, suc, ◌+◌, ◌-◌, ◌*◌, ◌^◌, ◌<◌, ◌≤◌, Bool, true, false, cond, eqb, ltb, ◌&&◌, List, [], ◌∷◌, ◌++◌, length, add-zero, refl, sym, ap, ◌∙◌, subst, arith}
 use Rattle.std.specs.Char.{digit_value}
 use Rattle.std.proofs.lemmas.Bool.{eqb-true, ltb-true}
-use Rattle.dm_chunk.specs.Bytes.{is_blank, is_hex, hexadecimal}
+use Rattle.dm_types.specs.Bytes.{is_blank}
+use Rattle.dm_chunk.specs.Bytes.{is_hex, hexadecimal}
 use Rattle.dm_chunk.specs.Grammar.{section_text}
 use Rattle.dm_chunk.specs.Machine.{after, brings, behind_size, digit_taken, no_digit, opened, data_goes, data_brings, spend}
 use Rattle.dm_chunk.specs.declared.place.Place.{Place}

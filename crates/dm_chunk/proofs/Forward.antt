@@ -4,7 +4,8 @@ use Rattle.std.specs.List.{flat_map, AllByRecursion}
 use Rattle.std.specs.Char.{digit_value}
 use Rattle.std.proofs.lemmas.Bool.{both_ways, eqb-true, eq-eqb, lt-ltb, ltb-true}
 use Rattle.std.proofs.Math.Nat.{pow-suc, pow-le-pow_right, mul_assoc, add-mul}
-use Rattle.dm_chunk.specs.Bytes.{is_blank, is_line_byte, is_hex, Each, hexadecimal}
+use Rattle.dm_types.specs.Bytes.{is_blank, Each}
+use Rattle.dm_chunk.specs.Bytes.{is_line_byte, is_hex, hexadecimal}
 use Rattle.dm_chunk.specs.Grammar.{IsExtension, IsTrailer, trailer_text, section_text}
 use Rattle.dm_chunk.specs.Machine.{after, brings, behind_size, digit_taken, no_digit, opened, data_goes, data_brings, spend}
 use Rattle.dm_chunk.specs.declared.place.Place.{Place}

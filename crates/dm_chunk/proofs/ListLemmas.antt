@@ -1,7 +1,8 @@
 -- Lists that begin alike, and tests on bytes.
 use Rattle.std.proofs.Common.{◌≡◌, ℕ, Bool, true, false, eqb, not, ◌&&◌, ◌||◌, List, [], ◌∷◌, ◌++◌, ◌⊎◌, inl, inr, refl, sym, ap, ◌∙◌}
 use Rattle.std.proofs.lemmas.Bool.{eqb-true}
-use Rattle.dm_chunk.specs.Bytes.{is_blank, is_line_byte}
+use Rattle.dm_types.specs.Bytes.{is_blank}
+use Rattle.dm_chunk.specs.Bytes.{is_line_byte}
 use Rattle.dm_chunk.specs.Fronts.{Begins}
 
 pub head_is : (a b : ℕ) (x y : List ℕ) → ◌≡◌ {A = List ℕ} (a ∷ x) (b ∷ y) → a ≡ b

@@ -2,7 +2,8 @@
 use Rattle.std.proofs.Common.{◌≡◌, ℕ, zero, suc, ◌+◌, ◌-◌, ◌*◌, ◌^◌, ◌<◌, ◌≤◌, Bool, true, false, cond, ltb, List, [], ◌∷◌, ◌++◌, length, refl, subst, arith}
 use Rattle.std.specs.List.{AllByRecursion}
 use Rattle.std.proofs.lemmas.Bool.{ltb-true, ltb-false}
-use Rattle.dm_chunk.specs.Bytes.{is_blank, is_line_byte, is_hex, Each, hexadecimal}
+use Rattle.dm_types.specs.Bytes.{is_blank, Each}
+use Rattle.dm_chunk.specs.Bytes.{is_line_byte, is_hex, hexadecimal}
 use Rattle.dm_chunk.specs.Grammar.{Body, body_text, body_data, IsBody, IsExtension, IsTrailer, section_text}
 use Rattle.dm_chunk.specs.Machine.{spend}
 use Rattle.dm_chunk.specs.declared.place.Place.{Place}

@@ -2,7 +2,8 @@
 use Rattle.std.proofs.Common.{◌≡◌, ℕ, zero, suc, ◌+◌, ◌-◌, ◌*◌, ◌<◌, ◌≤◌, Bool, true, false, ◌&&◌, cond, ltb, eqb, ◌^◌, refl, sym, arith}
 use Rattle.std.proofs.lemmas.Bool.{ltb-true, ltb-false, false≢true}
 use Rattle.std.specs.Char.{digit_value}
-use Rattle.dm_chunk.specs.Bytes.{is_blank, is_hex}
+use Rattle.dm_types.specs.Bytes.{is_blank}
+use Rattle.dm_chunk.specs.Bytes.{is_hex}
 use Rattle.dm_chunk.specs.Machine.{spend, digit_taken, no_digit, behind_size, opened, data_goes, after, is_stop}
 use Rattle.dm_chunk.specs.Waits.{framing_from}
 use Rattle.dm_chunk.specs.declared.place.Place.{Place}

@@ -1,11 +1,6 @@
 -- Kinds of bytes in a chunk line, and what hexadecimal digits stand for.
-use Rattle.std.specs.Prelude.{ℕ, ◌+◌, ◌*◌, ◌^◌, Bool, ◌||◌, ◌&&◌, not, ◌==◌, nat_lt, IsTrue, List, [], ◌∷◌, length}
-use Rattle.std.specs.List.{AllByRecursion}
+use Rattle.std.specs.Prelude.{ℕ, ◌+◌, ◌*◌, ◌^◌, Bool, ◌&&◌, not, ◌==◌, nat_lt, List, [], ◌∷◌, length}
 use Rattle.std.specs.Char.{digit_value}
-
--- a blank is a space or a tab
-abbrev pub is_blank : ℕ → Bool
-is_blank b = b == 32 || b == 9
 
 -- any byte but CR and LF
 abbrev pub is_line_byte : ℕ → Bool
@@ -14,10 +9,6 @@ is_line_byte b = not (b == 13) && not (b == 10)
 -- HEXDIG, in any case: the digits and letters with values below 16
 abbrev pub is_hex : ℕ → Bool
 is_hex b = nat_lt (digit_value b) 16
-
--- each byte is of the kind
-abbrev pub Each : (ℕ → Bool) → List ℕ → Type 0
-Each kind bytes = AllByRecursion (λ b. IsTrue (kind b)) bytes
 
 -- what hexadecimal digits stand for: each counts by its place
 abbrev pub hexadecimal : List ℕ → ℕ

@@ -1,7 +1,8 @@
 -- The chunked coding as a grammar on whole texts (RFC 9112, section 7.1), with this project's limits. CR LF is 13, 10.
 use Rattle.std.specs.Prelude.{◌≡◌, ℕ, ◌<◌, ◌≤◌, List, [], ◌∷◌, ◌++◌, length}
 use Rattle.std.specs.List.{flat_map, AllByRecursion}
-use Rattle.dm_chunk.specs.Bytes.{is_blank, is_line_byte, is_hex, Each, hexadecimal}
+use Rattle.dm_types.specs.Bytes.{is_blank, Each}
+use Rattle.dm_chunk.specs.Bytes.{is_line_byte, is_hex, hexadecimal}
 
 -- ---- chunk lines
 

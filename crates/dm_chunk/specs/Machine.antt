@@ -1,7 +1,8 @@
 -- The decoder's places, byte by byte.
 use Rattle.std.specs.Prelude.{ℕ, ◌+◌, ◌-◌, ◌*◌, ◌^◌, zero, suc, Bool, true, false, ◌&&◌, ◌==◌, nat_lt, if◌then◌else◌, List, [], ◌∷◌, ◌++◌}
 use Rattle.std.specs.Char.{digit_value}
-use Rattle.dm_chunk.specs.Bytes.{is_blank, is_hex}
+use Rattle.dm_types.specs.Bytes.{is_blank}
+use Rattle.dm_chunk.specs.Bytes.{is_hex}
 use Rattle.dm_chunk.specs.declared.place.Place.{Place}
 use Rattle.dm_chunk.specs.declared.place.Place.TheVariants.{Digits, Blanks, Extension, LineEnd, Data, DataEnd, TrailerStart, Trailer, TrailerEnd, LastEnd, Done, Broken}
 

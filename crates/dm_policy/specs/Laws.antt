@@ -1,5 +1,5 @@
 -- The rows of the two tables, and what an item's facts make of a row, sentence by sentence.
-use Rattle.std.specs.Prelude.{◌≡◌, ℕ, ◌≤◌, true, false, Option, Some, None}
+use Rattle.std.specs.Prelude.{◌≡◌, ◌≢◌, ℕ, ◌≤◌, true, false, List, Option, Some, None}
 use Rattle.dm_types.specs.Reason.{code_of}
 use Rattle.dm_types.specs.declared.kinds.DiskKind.TheVariants as kinds
 use Rattle.dm_types.specs.declared.kinds.Mode.{Mode}
@@ -26,6 +26,7 @@ pub record CauseRows : Type 0 where
   pub both_stand : number_of causes.BothStand ≡ 1
   pub too_large : (total : ℕ) → number_of (causes.TooLarge total) ≡ 6
   pub part_short : (have wanted : ℕ) → number_of (causes.PartShort have wanted) ≡ 13
+  pub digest_differs : (have wanted : List ℕ) → number_of (causes.DigestDiffers have wanted) ≡ 14
   pub net_failed : number_of causes.NetFailed ≡ 20
   pub head_cut : number_of causes.HeadCut ≡ 20
   pub net_timeout : number_of causes.NetTimeout ≡ 21
@@ -43,7 +44,17 @@ pub record CauseRows : Type 0 where
   pub memory : number_of causes.Memory ≡ 60
   pub crash : number_of causes.Crash ≡ 50
 
--- the statuses (RFC 9110, section 15), by number
+-- a status of none of the rows that name some
+pub record IsOther (status : ℕ) : Type 0 where
+  pub unauthorized : status ≢ 401
+  pub proxy : status ≢ 407
+  pub forbidden : status ≢ 403
+  pub not_found : status ≢ 404
+  pub gone : status ≢ 410
+  pub success : 201 ≤ status → status ≤ 299 → ⊥
+  pub no_range : status ≢ 416
+
+-- each status (RFC 9110, section 15), by number
 pub record StatusRows : Type 0 where
   pub unauthorized : number_of (causes.Status 401) ≡ 34
   pub proxy : number_of (causes.Status 407) ≡ 34
@@ -52,8 +63,7 @@ pub record StatusRows : Type 0 where
   pub gone : number_of (causes.Status 410) ≡ 33
   pub other_success : (status : ℕ) → 201 ≤ status → status ≤ 299 → number_of (causes.Status status) ≡ 33
   pub no_range : number_of (causes.Status 416) ≡ 31
-  pub switching : number_of (causes.Status 101) ≡ 30
-  pub server : (status : ℕ) → 500 ≤ status → number_of (causes.Status status) ≡ 30
+  pub other : (status : ℕ) → IsOther status → number_of (causes.Status status) ≡ 30
 
 -- nothing in the facts changes the row: it can continue, the user need not be asked, and an attempt is left
 pub record IsFree (facts : ModeFacts) : Type 0 where
@@ -106,5 +116,6 @@ LastIsInvalid = (reason : Option Reason) (facts : ModeFacts) → facts.attempt.0
 abbrev pub InvalidStays : Type 0
 InvalidStays = (reason : Option Reason) (facts : ModeFacts) → asked_mode reason ≡ Invalid → mode_by reason facts ≡ Invalid
 
+-- after five attempts that it made by itself the user is asked
 abbrev pub FiveAsk : Type 0
 FiveAsk = (facts : ModeFacts) → 5 ≤ facts.autos → asks_user facts ≡ true

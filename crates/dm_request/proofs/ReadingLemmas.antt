@@ -90,6 +90,11 @@ again url is =
 pub address_again : (url : Parts) → IsFetched url → IsRead (address_of url).text (address_of url)
 address_again url is = ap addressed (again url is)
 
+-- and has at most as many bytes as an address may
+pub short_text : (url : Parts) → IsFetched url → length (address_of url).text ≤ most
+short_text url is =
+    ltb-false most (length (text_of url)) (passes url (nat_lt most (length (text_of url))) (is_http url) is.fetched).0
+
 -- the path of a web URL is a list of segments, and their bytes are above a space
 path_unbroken : (url : Parts) → IsValid url → kind_of url ≡ SpecialNotFile → IsUnbroken url.path
 path_unbroken url valid kind =

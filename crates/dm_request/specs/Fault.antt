@@ -4,6 +4,9 @@ use Rattle.std.specs.Prelude.{◌≡◌, ℕ, List, None, Result, Ok, Err, Match
 use Rattle.dm_types.specs.declared.address.Address.{Address}
 use Rattle.dm_request.specs.declared.address.AddressFault.{AddressFault}
 use Rattle.dm_request.specs.declared.address.AddressFault.TheVariants.{TooLong, NotUrl, NotHttp, NoMemory}
+use Rattle.dm_request.specs.declared.address.Unread.{Unread}
+use Rattle.dm_request.specs.declared.address.Unread.TheVariants.{Refused}
+use Rattle.dm_request.specs.declared.address.Unread.TheVariants as answers
 use Rattle.dm_request.specs.Reading.{address_read, address_next}
 
 -- the fault is the one that is expected, or memory was wanting
@@ -33,6 +36,21 @@ IsNext base location address = address_next base location ≡ Ok address
 abbrev pub RefusesNext : Address → List ℕ → AddressFault → Type 0
 RefusesNext base location fault = IsFaultOf (address_next base location) fault
 
+-- there is no address
+abbrev pub HasNone : Result Address AddressFault → Type 0
+HasNone expected = (address : Address) → ¬ (expected ≡ Ok address)
+
 -- no address is read of the text: it is refused for another cause than memory
 abbrev pub IsNoAddress : List ℕ → Type 0
-IsNoAddress text = (address : Address) → ¬ IsRead text address
+IsNoAddress text = HasNone (address_read None text)
+
+-- the Location leads to no address
+abbrev pub IsNowhere : Address → List ℕ → Type 0
+IsNowhere base location = HasNone (address_next base location)
+
+-- a fault refuses its text, but for want of memory
+abbrev pub unread_of : AddressFault → Unread
+unread_of (TooLong length) = Refused
+unread_of NotUrl = Refused
+unread_of NotHttp = Refused
+unread_of NoMemory = answers.NoMemory

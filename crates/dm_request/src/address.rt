@@ -1,7 +1,9 @@
-ghost use Rattle.std.specs.Prelude.{◌≡◌, IfOk, IfErr};
+ghost use Rattle.std.specs.Prelude.{◌≡◌, ◌≤◌, length, IfOk, IfErr, Result};
 ghost use Rattle.dm_types.specs.declared.address.Address.{Address};
+ghost use Rattle.dm_request.specs.declared.address.AddressFault.{AddressFault as Fault};
 ghost use Rattle.dm_request.specs.Address.{address_of, FitsLines};
-ghost use Rattle.dm_request.specs.Fault.{IsRead, Refuses, IsNext, RefusesNext};
+ghost use Rattle.dm_request.specs.Fault.{IsRead, Refuses, IsNext, RefusesNext, IsFaultOf, unread_of, HasNone};
+ghost use Rattle.dm_request.specs.declared.address.Unread.TheVariants as answers;
 
 use crate::reading::{join_url, read_url, target, text_of};
 use dm_types::{Address, NoMemory, Text};
@@ -21,6 +23,32 @@ pub enum AddressFault {
     NoMemory,
 }
 
+/// What a refusal comes to where its cause doesn't matter.
+#[derive(Clone, Copy, Debug, PartialEq, Eq)]
+pub enum Unread {
+    /// The text is no address.
+    Refused,
+    /// Memory was wanting.
+    NoMemory,
+}
+
+impl AddressFault {
+    /// Whether the text is refused, or memory was wanting.
+    pub fn unread(self) -> Unread
+        ensures is { result ≡ unread_of self }
+
+        // Where a text is rightly refused, there is no address.
+        ensures refused { result ≡ answers.Refused → (expected : Result Address Fault) → IsFaultOf expected self → HasNone expected }
+    {
+        match self {
+            AddressFault::NoMemory => Unread::NoMemory,
+            AddressFault::TooLong(_) => Unread::Refused,
+            AddressFault::NotUrl => Unread::Refused,
+            AddressFault::NotHttp => Unread::Refused,
+        }
+    }
+}
+
 /// The address that a text is, read by the URL Standard, section 4.4, in at most 4,096 bytes.
 pub fn read_address(alloc: Global, text: &[u8]) -> Result<Address, AddressFault>
     ensures ok { IfOk result (IsRead text.now) }
@@ -32,8 +60,10 @@ pub fn read_address(alloc: Global, text: &[u8]) -> Result<Address, AddressFault>
     // An address that was read is read of its own text again.
     ensures stable { IfOk result (λ address. IsRead address.text address) }
 
-    // No space, control or line break stands in its host and its target.
+    // No space stands in its host and its target, and no byte below it, as those of a line's end are.
     ensures lines { IfOk result FitsLines }
+
+    ensures short { IfOk result (λ address. length address.text ≤ 4096) }
 {
     let url = match read_url(alloc, text) {
         Ok(url) => url,
@@ -58,8 +88,10 @@ pub fn next_address(alloc: Global, base: &Address, location: &[u8]) -> Result<Ad
     // An address that was joined is read of its own text again.
     ensures stable { IfOk result (λ address. IsRead address.text address) }
 
-    // No space, control or line break stands in its host and its target.
+    // No space stands in its host and its target, and no byte below it, as those of a line's end are.
     ensures lines { IfOk result FitsLines }
+
+    ensures short { IfOk result (λ address. length address.text ≤ 4096) }
 {
     let from = match read_url(alloc, base.text.bytes()) {
         Ok(from) => from,

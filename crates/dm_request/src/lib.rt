@@ -5,7 +5,7 @@ mod address;
 mod reading;
 mod request;
 
-pub use address::{AddressFault, next_address, read_address};
+pub use address::{AddressFault, Unread, next_address, read_address};
 pub use request::{Ask, request_text};
 
 #[cfg(test)]

@@ -1,4 +1,4 @@
-// A text as a URL that `dm` fetches.
+//! A text as a URL that `dm` fetches.
 ghost use Rattle.std.specs.Prelude.{◌≡◌, ◌≤◌, true, length, Option, None, Some, IfOk, IfErr, IsAscii};
 ghost use Rattle.std.specs.Str.{is_utf8};
 ghost use Rattle.url.specs.Parts.{Parts, IsValid};

@@ -3,7 +3,7 @@ use Rattle.std.proofs.Common.{◌≡◌, ℕ, zero, suc, ◌+◌, ◌<◌, Bool,
 use Rattle.std.specs.List.{prefix_len, list_all}
 use Rattle.std.proofs.Math.Numerals.{one-add}
 use Rattle.std.proofs.lemmas.Bool.{false≢true, and_parts, and_from}
-use Rattle.dm_tag.specs.Runs.{Each, Stops, Cuts}
+use Rattle.dm_types.specs.Bytes.{Each, Stops, Cuts}
 
 cut_at : (kind : ℕ → Bool) (b : ℕ) (bs : List ℕ) (n : ℕ) (t : Bool) → kind b ≡ t → Cuts kind bs (take n bs) (drop n bs) → Cuts kind (b ∷ bs) (take (cond t (1 + n) 0) (b ∷ bs)) (drop (cond t (1 + n) 0) (b ∷ bs))
 cut_at kind b bs n true e h = rw one-add (record { parts = ap (λ (x : List ℕ). b ∷ x) h.parts; each = (e, h.each); stops = h.stops })

@@ -4,7 +4,7 @@ use Rattle.std.specs.Char.{is_ascii_digit}
 use Rattle.std.proofs.lemmas.List.{length_push, take_more, length-take-le}
 use Rattle.std.proofs.lemmas.Bool.Decides.{nat_tests}
 use Rattle.std.proofs.Math.Nat.{pow-suc, pow-le-pow_right, mul-le-mul_right}
-use Rattle.dm_tag.specs.Runs.{Each}
+use Rattle.dm_types.specs.Bytes.{Each}
 use Rattle.dm_tag.specs.Number.{decimal}
 use Rattle.dm_tag.proofs.CutLemmas.{Each-take, Each-at}
 

@@ -2,7 +2,7 @@
 use Rattle.std.proofs.Common.{◌≡◌, ℕ, Bool, true, false, List, [], ◌∷◌, ◌++◌, ◌<◌, length, Option, refl, sym, ap, ◌∙◌, subst, arith}
 use Rattle.std.specs.Char.{is_ascii_digit}
 use Rattle.std.proofs.lemmas.Bool.{both_ways}
-use Rattle.dm_tag.specs.Runs.{Each}
+use Rattle.dm_types.specs.Bytes.{Each}
 use Rattle.dm_tag.specs.Number.{BeginsNumber}
 use Rattle.dm_tag.specs.Tag.{IsTag}
 use Rattle.dm_tag.specs.Range.{IsTotal, IsPart, IsUnsatisfied, IsRange, IsContentRange}

@@ -5,7 +5,7 @@ use Rattle.std.specs.List.{flat_map, AllByRecursion, IsSplitAt}
 use Rattle.std.specs.Char.{is_ascii_digit, to_ascii_lowercase}
 use Rattle.std.proofs.lemmas.List.{append-nil, append_assoc, take_at, drop_at, length-map, length-append}
 use Rattle.std.proofs.lemmas.Bool.Decides.{nat_tests}
-use Rattle.dm_tag.specs.Runs.{is_blank, Each, Stops, Cuts}
+use Rattle.dm_types.specs.Bytes.{is_blank, Each, Stops, Cuts}
 use Rattle.dm_tag.specs.Number.{decimal, IsNumber, BeginsNumber}
 use Rattle.dm_tag.specs.Range.{IsTotal, IsPart, IsUnsatisfied, IsRange, IsContentRange}
 use Rattle.dm_tag.specs.Units.{BeginsUnit, IsBytesUnit}

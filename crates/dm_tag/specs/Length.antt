@@ -2,7 +2,7 @@
 use Rattle.std.specs.Prelude.{◌≡◌, ℕ, List, ◌∷◌, ◌++◌}
 use Rattle.std.specs.List.{flat_map, AllByRecursion}
 use Rattle.std.specs.Char.{is_ascii_digit}
-use Rattle.dm_tag.specs.Runs.{is_blank, Each, Stops}
+use Rattle.dm_types.specs.Bytes.{is_blank, Each, Stops}
 use Rattle.dm_tag.specs.Number.{IsNumber}
 
 -- OWS "," OWS 1*DIGIT

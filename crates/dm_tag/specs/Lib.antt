@@ -1,4 +1,3 @@
-pub mod Runs
 pub mod Number
 pub mod Tag
 pub mod Range

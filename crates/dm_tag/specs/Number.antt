@@ -1,7 +1,7 @@
 -- Numbers: 1 to 19 decimal digits, leading zeros allowed, as RFC 9110's 1*DIGIT. They fit 64 bits.
 use Rattle.std.specs.Prelude.{◌≡◌, ℕ, ◌+◌, ◌-◌, ◌*◌, ◌^◌, ◌<◌, ◌≤◌, List, [], ◌∷◌, ◌++◌, length}
 use Rattle.std.specs.Char.{is_ascii_digit}
-use Rattle.dm_tag.specs.Runs.{Each, Stops}
+use Rattle.dm_types.specs.Bytes.{Each, Stops}
 
 -- what decimal digits stand for: each counts by its place. 48 is '0'
 abbrev pub decimal : List ℕ → ℕ

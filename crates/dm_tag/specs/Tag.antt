@@ -1,7 +1,7 @@
 -- Entity tags (RFC 9110, section 8.8.3).
 use Rattle.std.specs.Prelude.{◌≡◌, ℕ, Bool, true, false, ◌||◌, ◌==◌, List, [], ◌∷◌, ◌++◌}
 use Rattle.std.specs.Int.{is_in_range}
-use Rattle.dm_tag.specs.Runs.{Each}
+use Rattle.dm_types.specs.Bytes.{Each}
 
 -- etagc = %x21 / %x23-7E / obs-text
 abbrev pub is_tag_byte : ℕ → Bool

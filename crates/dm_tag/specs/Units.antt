@@ -2,7 +2,7 @@
 use Rattle.std.specs.Prelude.{◌≡◌, ℕ, ◌==◌, List, ◌++◌, map, codes, Any}
 use Rattle.std.specs.List.{slice_split}
 use Rattle.std.specs.Char.{to_ascii_lowercase}
-use Rattle.dm_tag.specs.Runs.{is_blank, Each}
+use Rattle.dm_types.specs.Bytes.{is_blank, Each}
 
 -- the bytes begin with `bytes`, in any case
 pub record BeginsUnit (bytes rest : List ℕ) : Type 0 where

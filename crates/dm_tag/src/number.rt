@@ -1,6 +1,6 @@
 ghost use Rattle.std.specs.Prelude.{◌≡◌, ◌≤◌, IfSome, IfNone, List, ℕ, length};
 ghost use Rattle.std.specs.Char.{is_ascii_digit};
-ghost use Rattle.dm_tag.specs.Runs.{Each};
+ghost use Rattle.dm_types.specs.Bytes.{Each};
 ghost use Rattle.dm_tag.specs.Number.{decimal, IsNumber, BeginsNumber};
 
 use crate::runs::cut_digits;

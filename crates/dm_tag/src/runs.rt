@@ -1,6 +1,6 @@
 ghost use Rattle.std.specs.Prelude.{◌≡◌, ◌∷◌, ◌++◌, [], IfSome, IfNone, IsTrue, ◌↔◌, List, ℕ};
 ghost use Rattle.std.specs.Char.{is_ascii_digit};
-ghost use Rattle.dm_tag.specs.Runs.{is_blank, Each, Cuts};
+ghost use Rattle.dm_types.specs.Bytes.{is_blank, Each, Cuts};
 
 /// A space or a tab.
 pub fn is_blank(byte: u8) -> bool

@@ -1,5 +1,5 @@
 ghost use Rattle.std.specs.Prelude.{◌≡◌, ◌↔◌, ◌∷◌, ◌++◌, [], IfSome, IfNone, IsTrue, List, ℕ, Bool, false};
-ghost use Rattle.dm_tag.specs.Runs.{Each};
+ghost use Rattle.dm_types.specs.Bytes.{Each};
 ghost use Rattle.dm_tag.specs.Tag.{is_tag_byte, IsOpaque, IsTag};
 
 use crate::runs::{after, before};

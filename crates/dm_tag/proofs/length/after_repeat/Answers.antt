@@ -1,5 +1,5 @@
 use Rattle.std.proofs.Common.{ℕ, List, ◌∷◌, sym, ◌∙◌, subst}
-use Rattle.dm_tag.specs.Runs.{is_blank, Cuts}
+use Rattle.dm_types.specs.Bytes.{is_blank, Cuts}
 use Rattle.dm_tag.specs.Number.{BeginsNumber}
 use Rattle.dm_tag.proofs.CutLemmas.{cons_tail}
 use Rattle.dm_tag.proofs.ReadLemmas.{cut_one, repeat_steps, repeat_from, number_one}
