@@ -7,7 +7,7 @@ use Rattle.dm_types.specs.declared.entry.Entry.TheVariants as entries
 use Rattle.dm_types.specs.declared.item.Item.{Item}
 use Rattle.dm_types.specs.declared.item.ItemId.{ItemId}
 use Rattle.dm_types.specs.declared.item.Phase.{Phase}
-use Rattle.dm_item.specs.Row.{name_of}
+use Rattle.dm_item.specs.Row.{target_of}
 use Rattle.dm_item.specs.Listing.{Listing, Meets, Row, RowAt, item_in}
 use Rattle.dm_desk.specs.Changing.{ChangeAnswers, IsWrong, SameAnswer, stands_in}
 use Rattle.dm_desk.specs.View.{View}
@@ -15,7 +15,7 @@ use Rattle.dm_desk.specs.declared.fault.DeskFault.{DeskFault}
 use Rattle.dm_desk.specs.declared.fault.DeskFault.TheVariants as faults
 
 -- an entry that names an item and meets its row
-row_of : (entry : Entry) (items : Listing) (id : ItemId) → name_of entry ≡ Some id → Meets items entry → Row entry items.items (item_in id.0 items.items)
+row_of : (entry : Entry) (items : Listing) (id : ItemId) → target_of entry ≡ Some id → Meets items entry → Row entry items.items (item_in id.0 items.items)
 row_of (entries.Added other word address wish digest at) items id named meets = absurd cc
 row_of (entries.Reopened next at) items id named meets = absurd cc
 row_of (entries.Restored item) items id named meets = absurd cc
@@ -55,7 +55,7 @@ module _ (is_done : Phase → Bool) (entry : Entry) (items : Listing) where
   one_phase None a b first second = absurd first
   one_phase (Some item) a b first second = sym first.phase_is ∙ second.phase_is
 
-module _ {D O : Type 0} (is_done : Phase → Bool) (entry : Entry) (id : ItemId) (old new other : View D O) (named : name_of entry ≡ Some id) where
+module _ {D O : Type 0} (is_done : Phase → Bool) (entry : Entry) (id : ItemId) (old new other : View D O) (named : target_of entry ≡ Some id) where
   good : (desk : View D O) → ChangeAnswers is_done entry id old desk (Ok tt) → (old.broken ≡ false) × IsGood is_done entry old.items (item_in id.0 old.items.items)
   good desk (inl left) = (left.whole, inl left.cause)
   good desk (inr took) = (took.whole, inr (row_of entry old.items id named took.cause.admits.meets))

@@ -10,7 +10,8 @@ use Rattle.dm_record.specs.Limits.{IsSpellable}
 use Rattle.dm_item.specs.declared.fault.ApplyFault.{ApplyFault}
 use Rattle.dm_item.specs.declared.fault.ApplyFault.TheVariants as applies
 use Rattle.dm_item.specs.Lawful.{History}
-use Rattle.dm_item.specs.Listing.{Admits, Declines, Listing, Row, is_light, item_in}
+use Rattle.dm_item.specs.Listing.{Admits, Listing, Row, is_light, item_in}
+use Rattle.dm_item.specs.Declines.{Declines}
 use Rattle.dm_desk.specs.Changing.{ChangeChecked, ChangeDoes, IsWrong, change_tries, entry_of, is_left, leaves, stands_in}
 use Rattle.dm_desk.specs.declared.changing.Change.{Change}
 use Rattle.dm_desk.specs.declared.changing.Change.TheVariants as changes

@@ -11,7 +11,8 @@ use Rattle.dm_record.specs.Limits.{IsEntry}
 use Rattle.dm_item.specs.declared.fault.ApplyFault.{ApplyFault}
 use Rattle.dm_item.specs.declared.fault.ApplyFault.TheVariants as applies
 use Rattle.dm_item.specs.Lawful.{History}
-use Rattle.dm_item.specs.Listing.{Admits, Declines, Listing, Takes}
+use Rattle.dm_item.specs.Listing.{Admits, Listing, Takes}
+use Rattle.dm_item.specs.Declines.{Declines}
 use Rattle.dm_item.proofs.Histories.{keeps_step}
 use Rattle.dm_journal.specs.AtRest.{AtRest, WithOrWithout}
 use Rattle.dm_kept.specs.Keeping.{Does}

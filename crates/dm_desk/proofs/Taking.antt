@@ -8,7 +8,8 @@ use Rattle.dm_record.specs.declared.fault.RecordFault.{RecordFault}
 use Rattle.dm_record.specs.declared.fault.RecordFault.TheVariants as records
 use Rattle.dm_record.proofs.Places.{one_spelling}
 use Rattle.dm_item.specs.Lawful.{History, IsOf}
-use Rattle.dm_item.specs.Listing.{Declines, Listing}
+use Rattle.dm_item.specs.Listing.{Listing}
+use Rattle.dm_item.specs.Declines.{Declines}
 use Rattle.dm_item.specs.declared.fault.ApplyFault.{ApplyFault}
 use Rattle.dm_item.specs.declared.fault.ApplyFault.TheVariants as applies
 use Rattle.dm_item.proofs.Histories.{keeps_step}

@@ -7,7 +7,8 @@ use Rattle.dm_types.specs.declared.item.ItemId.{ItemId}
 use Rattle.dm_disk_model.specs.Disk.{History as Clock}
 use Rattle.dm_record.specs.Limits.{AtMost}
 use Rattle.dm_item.specs.Lawful.{History}
-use Rattle.dm_item.specs.Listing.{HasNoWord, HasRoom, IsFreeWord, Listing, applied}
+use Rattle.dm_item.specs.Words.{HasNoWord, IsFreeWord}
+use Rattle.dm_item.specs.Listing.{HasRoom, Listing, applied}
 use Rattle.dm_kept.specs.Keeping.{Does}
 use Rattle.dm_desk.specs.View.{HoldsOf, View}
 use Rattle.dm_desk.specs.declared.order.Order.{Order}

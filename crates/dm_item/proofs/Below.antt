@@ -1,7 +1,7 @@
 -- Lists of items below a number, and how they change with one item.
-use Rattle.std.proofs.Common.{◌≡◌, ◌≢◌, ℕ, zero, suc, ◌+◌, ◌<◌, ◌≤◌, ◌⊎◌, List, [], ◌∷◌, ◌++◌, map, cond, true, false, Bool, ◌==◌, Option, Some, None, IsTrue, inl, inr, refl, ap, sym, subst, ◌∙◌, arith, append_assoc}
+use Rattle.std.proofs.Common.{◌≡◌, ◌≢◌, ℕ, zero, suc, ◌<◌, ◌≤◌, List, [], ◌∷◌, ◌++◌, map, cond, true, false, Bool, ◌==◌, Option, Some, None, inl, inr, refl, ap, sym, subst, ◌∙◌, arith, append_assoc}
 use Rattle.std.specs.Prelude.{option_to_list, option_and_then}
-use Rattle.std.proofs.lemmas.Bool.{cases_lt, cases_eq, false≢true}
+use Rattle.std.proofs.lemmas.Bool.{cases_lt, cases_eq}
 use Rattle.std.proofs.lemmas.Bool.Decides.{nat_tests}
 use Rattle.std.proofs.lemmas.List.{append-nil}
 use Rattle.dm_types.specs.declared.item.Item.{Item}
@@ -10,7 +10,8 @@ use Rattle.dm_types.specs.declared.entry.Entry.{Entry}
 use Rattle.dm_item.specs.History.{first_some, map_some}
 use Rattle.dm_item.specs.Fields.{is_gone, items_below}
 use Rattle.dm_item.specs.Row.{changed, stopped_item}
-use Rattle.dm_item.specs.Listing.{IsAbove, changed_at, item_in, items_after, without}
+use Rattle.dm_item.specs.Restored.{IsAbove}
+use Rattle.dm_item.specs.Listing.{changed_at, item_in, items_after, without}
 
 pub eq_true : (n : ℕ) → (n == n) ≡ true
 eq_true n = grind (arith, nat_tests)
@@ -143,7 +144,7 @@ below-stopped at after (suc m) each =
     ∙ sym (map-join stopped_item (items_below at m) (option_to_list (at m)))
 
 -- what is found in the list stands under its id
-in-append : (id : ℕ) (items more : List Item) → item_in id (items ++ more) ≡ first_some (item_in id items) (item_in id more)
+pub in-append : (id : ℕ) (items more : List Item) → item_in id (items ++ more) ≡ first_some (item_in id items) (item_in id more)
 in-append id [] more = refl
 in-append id (item ∷ rest) more =
     elim (item.id.0 == id) as (λ (b : Bool). cond b (Some item) (item_in id (rest ++ more)) ≡ first_some (cond b (Some item) (item_in id rest)) (item_in id more)) [
@@ -155,7 +156,7 @@ pub record Found (at : ℕ → Option Item) (id n : ℕ) (item : Item) : Type 0 
   pub below : id < n
   pub is : at id ≡ Some item
 
-eq_same : (n m : ℕ) → (n == m) ≡ true → n ≡ m
+pub eq_same : (n m : ℕ) → (n == m) ≡ true → n ≡ m
 eq_same n m test = grind (arith, nat_tests)
 
 in_option_at : (at : ℕ → Option Item) (id m : ℕ) (item i : Item) (test : Bool) → at m ≡ Some i → i.id.0 ≡ m → (i.id.0 == id) ≡ test → cond test (Some i) None ≡ Some item → Found at id (suc m) item

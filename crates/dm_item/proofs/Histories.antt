@@ -1,10 +1,8 @@
 -- A list that took lawful entries is what their history leaves.
-use Rattle.std.proofs.Common.{◌≡◌, ℕ, ◌+◌, ◌<◌, ◌≤◌, List, [], ◌∷◌, ◌++◌, reverse, length, get_or, take, Option, Some, None, refl, ap, sym, subst, ◌∙◌, arith, append_assoc}
+use Rattle.std.proofs.Common.{◌≡◌, ℕ, ◌+◌, ◌<◌, ◌≤◌, List, [], ◌∷◌, ◌++◌, reverse, length, get_or, take, refl, ap, sym, subst, ◌∙◌, append_assoc}
 use Rattle.std.proofs.lemmas.List.{append-nil, reverse-append, take_more, take_all}
-use Rattle.dm_types.specs.declared.item.Item.{Item}
 use Rattle.dm_types.specs.declared.entry.Entry.{Entry}
 use Rattle.dm_types.specs.declared.entry.Entry.TheVariants as entries
-use Rattle.dm_item.specs.Fields.{item_at, items_below, next_of}
 use Rattle.dm_item.specs.Listing.{Listing, Meets, Takes, applied, empty_list}
 use Rattle.dm_item.specs.Lawful.{History, IsLawfulBack, IsOf, KeepsHistory, left_by}
 use Rattle.dm_item.proofs.Steps.{left_by_step}

@@ -1,5 +1,5 @@
 -- Laws of whole lawful histories.
-use Rattle.std.proofs.Common.{◌≡◌, ◌≢◌, ℕ, zero, suc, ◌+◌, ◌<◌, ◌≤◌, ◌⊎◌, List, [], ◌∷◌, ◌++◌, reverse, cond, true, false, Bool, not, ◌||◌, Option, Some, None, IsTrue, inl, inr, refl, ap, sym, subst, ◌∙◌, arith}
+use Rattle.std.proofs.Common.{◌≡◌, ℕ, ◌+◌, ◌<◌, ◌≤◌, ◌⊎◌, List, [], ◌∷◌, ◌++◌, reverse, cond, true, false, Bool, ◌||◌, Option, Some, None, inl, inr, refl, ap, sym, subst, ◌∙◌, arith}
 use Rattle.std.specs.Prelude.{IfSome, nat_le}
 use Rattle.std.proofs.lemmas.Bool.{false≢true}
 use Rattle.std.proofs.lemmas.Bool.Decides.{nat_tests}
@@ -17,14 +17,14 @@ use Rattle.dm_types.specs.declared.reason.Reason.{Reason}
 use Rattle.dm_types.specs.declared.entry.Entry.{Entry}
 use Rattle.dm_types.specs.declared.entry.Entry.TheVariants as entries
 use Rattle.dm_policy.specs.declared.mode.ModeFacts.{ModeFacts}
-use Rattle.dm_policy.specs.Mode.{asks_user, by_user, is_immediate, is_last_attempt, mode_by, placed_mode}
-use Rattle.dm_item.specs.History.{count_of, first_some, map_some, newest, since, stands, there}
-use Rattle.dm_item.specs.Fields.{autos_of, base_of, is_began, is_began_by_itself, is_began_by_user, is_gone, is_running, item_at, item_of, items_below, looked_back, next_of, own, stopped}
-use Rattle.dm_item.specs.Row.{Further, IsBegun, allows, changed, facts_of, mode_in, mode_of_item, name_of, stopped_item}
+use Rattle.dm_policy.specs.Mode.{by_user, is_immediate, is_last_attempt, mode_by, placed_mode}
+use Rattle.dm_item.specs.History.{count_of, map_some, since, stands, there}
+use Rattle.dm_item.specs.Fields.{base_of, is_began, is_began_by_itself, is_began_by_user, is_gone, is_running, item_at, item_of, items_below, next_of, own, stopped}
+use Rattle.dm_item.specs.Row.{Further, IsBegun, allows, changed, facts_of, mode_in, mode_of_item, target_of, stopped_item}
 use Rattle.dm_item.specs.Lawful.{AtMostFive, DoneOnce, History, IsLawful, IsLawfulBack, StaysOver, is_done, item_with}
 use Rattle.dm_item.proofs.Below.{effect}
-use Rattle.dm_item.proofs.Looks.{Fresh, nothing, opened, Present, count-fresh, newest-fresh, present}
-use Rattle.dm_item.proofs.Sounds.{changes, never_complete, stays_open}
+use Rattle.dm_item.proofs.Looks.{Fresh, opened, count-fresh, newest-fresh, present}
+use Rattle.dm_item.proofs.Sounds.{changes, never_complete}
 use Rattle.dm_item.proofs.Steps.{StepAt, elsewhere, named_here, opened_all, made_here, sane_lawful, step_at}
 
 some_same : {A : Type 0} {x y : A} → Some x ≡ Some y → x ≡ y
@@ -97,7 +97,7 @@ ended_gone (entries.Reopened next at) item does may complete = absurd (false≢t
 ended_gone (entries.Restored other) item does may complete = absurd (false≢true does)
 ended_gone (entries.Asked id) item does may complete = absurd (never_complete (entries.Asked id) (subst (λ (p : Phase). allows (entries.Asked id) p ≡ true) complete may) refl refl)
 
-name_changes : (e : Entry) (id : ItemId) → name_of e ≡ Some id → changes e ≡ true
+name_changes : (e : Entry) (id : ItemId) → target_of e ≡ Some id → changes e ≡ true
 name_changes (entries.Added id word address wish digest at) named says = absurd (none_some says)
 name_changes (entries.Began id attempt by at) named says = refl
 name_changes (entries.Described id key last_address total name modified) named says = refl
@@ -258,7 +258,7 @@ stays_over history more lawful =
 
 -- At most five attempts by itself stand behind one by the user.
 
-never_now : (mode : Mode) → is_immediate (by_user mode) ≡ true → ⊥
+pub never_now : (mode : Mode) → is_immediate (by_user mode) ≡ true → ⊥
 never_now modes.Invalid now = false≢true now
 never_now modes.ImmediateContinue now = false≢true now
 never_now modes.ImmediateRestart now = false≢true now

@@ -8,3 +8,8 @@ pub mod Sounds
 pub mod Shorts
 pub mod Lasting
 pub mod Undoing
+pub mod Declined
+pub mod Readied
+pub mod Applied
+pub mod Restarts
+pub mod Gone

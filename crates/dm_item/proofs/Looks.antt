@@ -1,6 +1,6 @@
 -- How the item of a history changes with one more entry of its id.
-use Rattle.std.proofs.Common.{◌≡◌, ℕ, ◌+◌, List, [], ◌∷◌, cond, true, false, Bool, not, ◌||◌, ◌==◌, Option, Some, None, IsTrue, refl, ap, sym, subst, ◌∙◌, arith, add-zero, add_assoc}
-use Rattle.std.specs.Prelude.{IsSome, is_some}
+use Rattle.std.proofs.Common.{◌≡◌, ℕ, ◌+◌, List, [], ◌∷◌, cond, true, false, Bool, ◌||◌, Option, Some, None, refl, ap, sym, ◌∙◌, arith, add-zero}
+use Rattle.std.specs.Prelude.{is_some}
 use Rattle.std.proofs.lemmas.Bool.{false≢true}
 use Rattle.dm_types.specs.declared.item.Item.{Item}
 use Rattle.dm_types.specs.declared.item.ItemId.{ItemId}
@@ -15,7 +15,7 @@ use Rattle.dm_types.specs.declared.reason.Reason.TheVariants as reasons
 use Rattle.dm_types.specs.declared.entry.Entry.{Entry}
 use Rattle.dm_types.specs.declared.entry.Entry.TheVariants as entries
 use Rattle.dm_item.specs.History.{first_some, there, get, map_some, newest, newest_after, since, stands, count_of}
-use Rattle.dm_item.specs.Fields.{added_item, at_set, attempt_set, autos_of, base_of, described, epoch_set, finishing_total, have_set, is_began, is_began_by_itself, is_began_by_user, is_gone, is_reopened, is_restarted, is_running, item_of, key_set, last_address_set, looked_back, modified_set, name_set, phase_of, phase_set, reason_set, runs, sets_phase, slices_set, stopped, told_total, total_of, total_set, was_left}
+use Rattle.dm_item.specs.Fields.{added_item, at_set, attempt_set, autos_of, base_of, epoch_set, finishing_total, have_set, is_began, is_began_by_itself, is_began_by_user, is_gone, is_reopened, is_restarted, is_running, item_of, key_set, last_address_set, looked_back, modified_set, name_set, phase_set, reason_set, runs, sets_phase, slices_set, stopped, total_set, was_left}
 use Rattle.dm_item.specs.Row.{begun_item, changed, described_item, stopped_item, stopped_reason}
 
 -- an item that is there: what its definition says

@@ -1,13 +1,19 @@
 -- Lemmas on lists whose ids rise.
-use Rattle.std.proofs.Common.{◌≡◌, ℕ, zero, suc, ◌+◌, ◌*◌, ◌^◌, ◌<◌, ◌≤◌, ◌⊎◌, List, [], ◌∷◌, ◌++◌, map, length, cond, true, false, Bool, ◌==◌, Option, Some, None, IsTrue, inl, inr, refl, ap, sym, subst, ◌∙◌, arith}
+use Rattle.std.proofs.Common.{◌≡◌, ℕ, ◌+◌, ◌<◌, ◌≤◌, ◌⊎◌, List, [], ◌∷◌, ◌++◌, map, length, cond, true, false, Bool, ◌==◌, Option, Some, None, IsTrue, inl, inr, refl, ap, sym, subst, ◌∙◌, arith}
 use Rattle.std.proofs.lemmas.Bool.{false≢true}
+use Rattle.std.proofs.lemmas.Bool.Decides.{nat_tests}
 use Rattle.dm_types.specs.declared.item.Item.{Item}
 use Rattle.dm_types.specs.declared.entry.Entry.{Entry}
 use Rattle.dm_types.specs.declared.entry.Entry.TheVariants as entries
 use Rattle.dm_types.specs.declared.item.ItemId.{ItemId}
 use Rattle.dm_item.specs.Fields.{is_gone}
-use Rattle.dm_item.specs.Row.{changed, name_of, stopped_item}
-use Rattle.dm_item.specs.Listing.{IsAbove, IsKept, IsNumbered, IsRestorable, NamedTakes, changed_at, items_after, without}
+use Rattle.dm_item.specs.Row.{changed, target_of, stopped_item}
+use Rattle.dm_item.specs.Restored.{IsAbove, IsRestorable}
+use Rattle.dm_item.specs.Listing.{TargetTakes, changed_at, items_after, put_in, without}
+use Rattle.dm_item.specs.Kept.{IsKept, IsNumbered}
+
+eq-is : (n m : ℕ) → (n == m) ≡ true → n ≡ m
+eq-is n m test = grind (arith, nat_tests)
 
 pub numbered-count : (low : ℕ) (items : List Item) (next : ℕ) → IsNumbered low items next → low + length items ≤ next
 numbered-count low [] next numbered = omega (arith, numbered)
@@ -84,9 +90,9 @@ numbered-items_after e (Some id) low items next numbered =
       | false ↦ numbered-changed_at e id.0 low items next numbered
     ]
 
-pub kept-named : (limit next : ℕ) (e : Entry) (items new : List Item) → IsNumbered 1 items next → NamedTakes e items new → IsKept (record { limit = limit; next = next; is_first = false; is_early = false; items = new })
+pub kept-named : (limit next : ℕ) (e : Entry) (items new : List Item) → IsNumbered 1 items next → TargetTakes e items new → IsKept (record { limit = limit; next = next; is_first = false; is_early = false; items = new })
 kept-named limit next e items new numbered takes =
-    record { numbered = subst (λ (x : List Item). IsNumbered 1 x next) (sym takes.value) (numbered-items_after e (name_of e) 1 items next numbered); fresh = λ no_way. absurd (false≢true no_way) }
+    record { numbered = subst (λ (x : List Item). IsNumbered 1 x next) (sym takes.value) (numbered-items_after e (target_of e) 1 items next numbered); fresh = λ no_way. absurd (false≢true no_way) }
 
 numbered-reopened : (first : Bool) (current next : ℕ) (items : List Item) → IsNumbered 1 items current → (IsTrue first → items ≡ []) → (next ≡ current) ⊎ (IsTrue first × (1 ≤ next)) → IsNumbered 1 (map stopped_item items) (cond first next current)
 numbered-reopened false current next items numbered fresh may = numbered-stopped 1 items current numbered
@@ -98,3 +104,18 @@ numbered-reopened true current next items numbered fresh may =
 pub kept-reopened : (limit current next after : ℕ) (first early : Bool) (items new : List Item) → IsNumbered 1 items current → (IsTrue first → items ≡ []) → (next ≡ current) ⊎ (IsTrue first × (1 ≤ next)) → after ≡ cond first next current → new ≡ map stopped_item items → IsKept (record { limit = limit; next = after; is_first = false; is_early = early; items = new })
 kept-reopened limit current next after first early items new numbered fresh may is value =
     record { numbered = rw (value, is) (numbered-reopened first current next items numbered fresh may); fresh = λ no_way. absurd (false≢true no_way) }
+
+-- an item put in the place of the one with its id
+numbered-put_test : (new item : Item) (low : ℕ) (rest : List Item) (next : ℕ) (test : Bool) → (item.id.0 == new.id.0) ≡ test → IsNumbered low (item ∷ rest) next → IsNumbered (item.id.0 + 1) (put_in new.id.0 new rest) next
+    → IsNumbered low (cond test (new ∷ rest) (item ∷ put_in new.id.0 new rest)) next
+numbered-put_test new item low rest next true is numbered older = subst (λ (n : ℕ). (low ≤ n) × IsNumbered (n + 1) rest next) (eq-is item.id.0 new.id.0 is) numbered
+numbered-put_test new item low rest next false is numbered older = (numbered.0, older)
+
+pub numbered-put : (new : Item) (low : ℕ) (items : List Item) (next : ℕ) → IsNumbered low items next → IsNumbered low (put_in new.id.0 new items) next
+numbered-put new low [] next numbered = numbered
+numbered-put new low (item ∷ rest) next numbered =
+    numbered-put_test new item low rest next (item.id.0 == new.id.0) refl numbered (numbered-put new (item.id.0 + 1) rest next numbered.1)
+
+pub kept-put : (limit next : ℕ) (items after : List Item) (new : Item) → IsNumbered 1 items next → after ≡ put_in new.id.0 new items → IsKept (record { limit = limit; next = next; is_first = false; is_early = false; items = after })
+kept-put limit next items after new numbered is =
+    record { numbered = subst (λ (x : List Item). IsNumbered 1 x next) (sym is) (numbered-put new 1 items next numbered); fresh = λ no_way. absurd (false≢true no_way) }

@@ -1,8 +1,7 @@
 -- Lemmas on the place of an item in a list: what is found, changed and taken out there.
-use Rattle.std.proofs.Common.{◌≡◌, ℕ, zero, suc, ◌+◌, ◌<◌, ◌≤◌, List, [], ◌∷◌, ◌++◌, length, get_or, set, take, drop, cond, true, false, Bool, ◌==◌, Option, Some, None, IsTrue, refl, ap, sym, subst, ◌∙◌, arith}
-use Rattle.std.specs.Prelude.{IsSomeAnd, if◌then◌else◌, remove, option_and_then}
-use Rattle.std.specs.List.{find, position, position_or_len}
-use Rattle.std.proofs.lemmas.Bool.{false≢true}
+use Rattle.std.proofs.Common.{◌≡◌, ℕ, zero, suc, ◌<◌, ◌≤◌, List, [], ◌∷◌, length, get_or, set, cond, true, false, Bool, ◌==◌, Option, Some, None, IsTrue, refl, ap, sym, subst, ◌∙◌, arith}
+use Rattle.std.specs.Prelude.{if◌then◌else◌, remove, option_and_then}
+use Rattle.std.specs.List.{position_or_len}
 use Rattle.std.proofs.lemmas.Bool.Decides.{nat_tests}
 use Rattle.std.proofs.lemmas.List.Quantifiers.{position-Some}
 use Rattle.std.proofs.lemmas.List.Sums.{fails_before_first}
@@ -12,8 +11,9 @@ use Rattle.dm_types.specs.declared.entry.Entry.{Entry}
 use Rattle.dm_item.specs.declared.fault.ApplyFault.{ApplyFault}
 use Rattle.dm_item.specs.declared.fault.ApplyFault.TheVariants.{NoItem, WrongPhase, Full, Unlawful, NoMemory}
 use Rattle.dm_item.specs.Fields.{is_gone}
-use Rattle.dm_item.specs.Row.{Further, allows, changed, name_of}
-use Rattle.dm_item.specs.Listing.{IsRowAt, NamedDeclines, NamedTakes, RowAt, Row, RowDeclines, changed_at, item_in, item_named, items_after, place_in, without}
+use Rattle.dm_item.specs.Row.{Further, allows, changed, target_of}
+use Rattle.dm_item.specs.Listing.{IsRowAt, TargetTakes, RowAt, changed_at, item_in, target_in, place_in, without}
+use Rattle.dm_item.specs.Declines.{TargetDeclines, RowDeclines}
 
 abbrev has : ℕ → Item → Bool
 has id item = item.id.0 == id
@@ -59,10 +59,10 @@ place-none id items is =
     none_has id items (λ k d h. fails_before_first (has id) items k d (omega arith))
 
 -- a refusal of the row at the place is one of the entry
-named_at : (e : Entry) (items : List Item) (id : ItemId) (item : Item) → name_of e ≡ Some id → item_in id.0 items ≡ Some item → item_named e items ≡ Some item
+named_at : (e : Entry) (items : List Item) (id : ItemId) (item : Item) → target_of e ≡ Some id → item_in id.0 items ≡ Some item → target_in e items ≡ Some item
 named_at e items id item is found = ap (λ (n : Option ItemId). option_and_then (λ i. item_in i.0 items) n) is ∙ found
 
-pub declines_at : (e : Entry) (items : List Item) (id : ItemId) (place : ℕ) (item : Item) (fault : ApplyFault) → name_of e ≡ Some id → place_in id.0 items ≡ Some place → item ≡ get_or items place item → RowDeclines e items item fault → NamedDeclines e items fault
+pub declines_at : (e : Entry) (items : List Item) (id : ItemId) (place : ℕ) (item : Item) (fault : ApplyFault) → target_of e ≡ Some id → place_in id.0 items ≡ Some place → item ≡ get_or items place item → RowDeclines e items item fault → TargetDeclines e items fault
 declines_at e items id place item (NoItem other) is at read why = absurd why
 declines_at e items id place item (WrongPhase phase) is at read why =
     let found = (place_first id.0 items place item at).found ∙ ap Some (sym read) in
@@ -74,9 +74,9 @@ declines_at e items id place item (Unlawful kind) is at read why =
 declines_at e items id place item NoMemory is at read why = absurd why
 
 -- what is written or taken out at the place is what the entry says
-pub takes_at : (e : Entry) (items new : List Item) (id : ItemId) (place : ℕ) (item : Item) → name_of e ≡ Some id → place_in id.0 items ≡ Some place → item ≡ get_or items place item →
+pub takes_at : (e : Entry) (items new : List Item) (id : ItemId) (place : ℕ) (item : Item) → target_of e ≡ Some id → place_in id.0 items ≡ Some place → item ≡ get_or items place item →
     IsTrue (allows e item.phase) → Further e items item →
-    new ≡ (if is_gone e then remove items place else set items place (changed e item)) → NamedTakes e items new
+    new ≡ (if is_gone e then remove items place else set items place (changed e item)) → TargetTakes e items new
 takes_at e items new id place item is at read phase further value =
     let first : FirstAt id.0 items place item = subst (FirstAt id.0 items place) (sym read) (place_first id.0 items place item at) in
     record {
@@ -85,12 +85,12 @@ takes_at e items new id place item is at read phase further value =
     }
 
 -- the row at a place is the one of the item that the entry names
-pub row_met : (e : Entry) (items : List Item) (place : ℕ) → IsRowAt e items place → RowAt e items (name_of e)
+pub row_met : (e : Entry) (items : List Item) (place : ℕ) → IsRowAt e items place → RowAt e items (target_of e)
 row_met e items place row =
     let first : FirstAt row.id.0 items place row.item = subst (FirstAt row.id.0 items place) (sym row.is) (place_first row.id.0 items place row.item row.at) in
     rw (row.named, first.found) (row.phase, row.further)
 
-pub takes_row : (e : Entry) (items new : List Item) (place : ℕ) (row : IsRowAt e items place) → new ≡ (if is_gone e then remove items place else set items place (changed e (get_or items place row.item))) → NamedTakes e items new
+pub takes_row : (e : Entry) (items new : List Item) (place : ℕ) (row : IsRowAt e items place) → new ≡ (if is_gone e then remove items place else set items place (changed e (get_or items place row.item))) → TargetTakes e items new
 takes_row e items new place row value =
     takes_at e items new row.id place row.item row.named row.at row.is row.phase row.further
     (value ∙ ap (λ (i : Item). if is_gone e then remove items place else set items place (changed e i)) (sym row.is))

@@ -1,20 +1,23 @@
 -- A lawful list is one that a compaction may write: its short history is lawful and leaves the same items.
-use Rattle.std.proofs.Common.{◌≡◌, ◌≢◌, ℕ, zero, suc, ◌+◌, ◌<◌, ◌≤◌, ◌⊎◌, List, [], ◌∷◌, ◌++◌, map, reverse, cond, true, false, Bool, not, ◌==◌, Option, Some, None, IsTrue, inl, inr, refl, ap, sym, subst, ◌∙◌, arith, append_assoc}
-use Rattle.std.specs.Prelude.{IfSome, IsSome, is_some}
+use Rattle.std.proofs.Common.{◌≡◌, ◌≢◌, ℕ, ◌+◌, ◌<◌, ◌≤◌, ◌⊎◌, List, [], ◌∷◌, ◌++◌, map, reverse, cond, true, false, Bool, ◌==◌, Option, Some, None, IsTrue, inl, inr, refl, ap, sym, subst, ◌∙◌, arith, append_assoc}
+use Rattle.std.specs.Prelude.{IfSome}
 use Rattle.std.proofs.lemmas.Bool.{false≢true}
 use Rattle.std.proofs.lemmas.Bool.Decides.{nat_tests}
 use Rattle.std.proofs.lemmas.List.{append-nil}
 use Rattle.dm_types.specs.declared.item.Item.{Item}
 use Rattle.dm_types.specs.declared.item.ItemId.{ItemId}
-use Rattle.dm_types.specs.declared.item.Key.{Key}
 use Rattle.dm_types.specs.declared.entry.Entry.{Entry}
 use Rattle.dm_types.specs.declared.entry.Entry.TheVariants as entries
+use Rattle.dm_types.specs.Name.{fold_case}
 use Rattle.dm_item.specs.Fields.{added_item, is_gone}
-use Rattle.dm_item.specs.Row.{Further, HasName, HasNameIn, IsFreeName, IsSameName, allows, changed, fold_case, is_cancelled, name_of, stopped_item}
-use Rattle.dm_item.specs.Listing.{HasNoWord, HasOwnName, HasRoomFor, IsAbove, IsApartFrom, IsFreeWord, IsNumbered, IsRestorable, IsSound, Listing, Meets, Row, RowAt, Takes, applied, changed_at, empty_list, item_in, items_after, without}
-use Rattle.dm_item.specs.Lawful.{History, IsLawful, IsLawfulBack, IsOf, IsShort, items_of, left_by, next_id_of, short_history}
-use Rattle.dm_item.proofs.Numbers.{changed-id, numbered-above, numbered-changed_at, numbered-count, numbered-push, numbered-stopped, numbered-without}
-use Rattle.dm_item.proofs.Histories.{empty_is, keeps_step, meets_limit}
+use Rattle.dm_item.specs.Row.{Further, HasName, HasNameIn, IsFreeName, allows, changed, is_cancelled, stopped_item}
+use Rattle.dm_item.specs.Words.{IsFreeWord}
+use Rattle.dm_item.specs.Restored.{HasOwnName, IsAbove, IsApartFrom, IsRestorable, IsSound}
+use Rattle.dm_item.specs.Listing.{Listing, Meets, Row, applied, changed_at, empty_list, item_in, items_after, without}
+use Rattle.dm_item.specs.Kept.{IsNumbered}
+use Rattle.dm_item.specs.Lawful.{History, IsLawfulBack, IsOf, IsShort, left_by, short_history}
+use Rattle.dm_item.proofs.Numbers.{numbered-above, numbered-changed_at, numbered-count, numbered-push, numbered-stopped, numbered-without}
+use Rattle.dm_item.proofs.Histories.{empty_is, keeps_step}
 use Rattle.dm_item.proofs.Steps.{left_by_step}
 use Rattle.dm_item.proofs.Sounds.{changes, sound-added, sound-changed, sound-stopped, stays_open, stopped_cancelled}
 
@@ -144,16 +147,16 @@ sounds_at : (e : Entry) (id : ℕ) (x : Item) (items : List Item) → item_in id
 sounds_at e id x [] found sound all = tt
 sounds_at e id x (y ∷ rest) found sound all = sounds_at_test e id x y rest (y.id.0 == id) found sound all (λ later. sounds_at e id x rest later sound all.1)
 
-sound_in_test : (id : ℕ) (x y : Item) (rest : List Item) (test : Bool) → cond test (Some y) (item_in id rest) ≡ Some x → IsSound y → (item_in id rest ≡ Some x → IsSound x) → IsSound x
-sound_in_test id x y rest true found sound older = subst IsSound (some_same found) sound
-sound_in_test id x y rest false found sound older = older found
+sounds_in_test : (id : ℕ) (x y : Item) (rest : List Item) (test : Bool) → cond test (Some y) (item_in id rest) ≡ Some x → IsSound y → (item_in id rest ≡ Some x → IsSound x) → IsSound x
+sounds_in_test id x y rest true found sound older = subst IsSound (some_same found) sound
+sounds_in_test id x y rest false found sound older = older found
 
 none_some : {A : Type 0} {x : A} → None ≡ Some x → ⊥
 none_some e = cc
 
-sound_in : (id : ℕ) (x : Item) (items : List Item) → item_in id items ≡ Some x → Sounds items → IsSound x
-sound_in id x [] found all = absurd (none_some found)
-sound_in id x (y ∷ rest) found all = sound_in_test id x y rest (y.id.0 == id) found all.0 (λ later. sound_in id x rest later all.1)
+sounds_in : (id : ℕ) (x : Item) (items : List Item) → item_in id items ≡ Some x → Sounds items → IsSound x
+sounds_in id x [] found all = absurd (none_some found)
+sounds_in id x (y ∷ rest) found all = sounds_in_test id x y rest (y.id.0 == id) found all.0 (λ later. sounds_in id x rest later all.1)
 
 id_in_test : (id : ℕ) (x y : Item) (rest : List Item) (test : Bool) → (y.id.0 == id) ≡ test → cond test (Some y) (item_in id rest) ≡ Some x → (item_in id rest ≡ Some x → x.id.0 ≡ id) → x.id.0 ≡ id
 id_in_test id x y rest true is found older = ap (λ (i : Item). i.id.0) (sym (some_same found)) ∙ eq_is y.id.0 id is
@@ -283,7 +286,7 @@ good-gone e id v x true is does good found row =
 good-gone e id v x false is does good found row =
     record {
       numbered = numbered-changed_at e id.0 1 v.items v.next good.numbered;
-      sounds = sounds_at e id.0 x v.items found (sound-changed e v.items x (sound_in id.0 x v.items found good.sounds) row.0 is does row.1) good.sounds;
+      sounds = sounds_at e id.0 x v.items found (sound-changed e v.items x (sounds_in id.0 x v.items found good.sounds) row.0 is does row.1) good.sounds;
       apart = apart_at e id.0 x v.items 1 v.next found good.numbered (kept_row e id.0 v.items x (id_in id.0 x v.items found) row.0 is does row.1) good.apart;
     }
 
@@ -447,3 +450,45 @@ short_law h v at is =
       items = ap (λ (x : Listing). x.items) (sym short.value);
       next = ap (λ (x : Listing). x.next) (sym short.value);
     }
+
+-- an item of a lawful list is as a lawful history leaves one
+pub sound_in : (h : History) (v : Listing) (id : ℕ) (item : Item) → IsOf h v → item_in id v.items ≡ Some item → IsSound item
+sound_in h v id item is found = sounds_in id item v.items found (good_of h v is).sounds
+
+-- two items of a lawful list have different names, where both have one and neither is cancelled
+swap_names : (name other : Option (List ℕ)) → IfSome other (λ told. ¬ HasNameIn name told) → IfSome name (λ told. ¬ HasNameIn other told)
+swap_names None other far = tt
+swap_names (Some name) None far = λ has. has
+swap_names (Some name) (Some other) far = λ (same : fold_case name ≡ fold_case other). far (sym same)
+
+swap_apart : (x y : Item) → IsApartFrom y x → IsApartFrom x y
+swap_apart x y far = λ x_lives y_lives. swap_names x.name y.name (far y_lives x_lives)
+
+behind_in_test : (x z y : Item) (k : ℕ) (rest : List Item) (test : Bool) → cond test (Some z) (item_in k rest) ≡ Some y → Pair x z → (item_in k rest ≡ Some y → Pair x y) → Pair x y
+behind_in_test x z y k rest true found pair older = subst (Pair x) (some_same found) pair
+behind_in_test x z y k rest false found pair older = older found
+
+behind_in : (x y : Item) (k : ℕ) (items : List Item) → Behind x items → item_in k items ≡ Some y → Pair x y
+behind_in x y k [] behind found = absurd (none_some found)
+behind_in x y k (z ∷ rest) behind found = behind_in_test x z y k rest (z.id.0 == k) found behind.0 (behind_in x y k rest behind.1)
+
+apart_in_test : (z x y : Item) (k j : ℕ) (rest : List Item) (first second : Bool) → (z.id.0 == k) ≡ first → (z.id.0 == j) ≡ second → k ≢ j → Behind z rest
+    → cond first (Some z) (item_in k rest) ≡ Some x → cond second (Some z) (item_in j rest) ≡ Some y → (item_in k rest ≡ Some x → item_in j rest ≡ Some y → IsApartFrom x y) → IsApartFrom x y
+apart_in_test z x y k j rest true true is_k is_j other behind found_x found_y older = absurd (other (sym (eq_is z.id.0 k is_k) ∙ eq_is z.id.0 j is_j))
+apart_in_test z x y k j rest true false is_k is_j other behind found_x found_y older =
+    subst (λ (i : Item). IsApartFrom i y) (some_same found_x) (swap_apart z y (behind_in z y j rest behind found_y).name)
+apart_in_test z x y k j rest false true is_k is_j other behind found_x found_y older =
+    subst (IsApartFrom x) (some_same found_y) (behind_in z x k rest behind found_x).name
+apart_in_test z x y k j rest false false is_k is_j other behind found_x found_y older = older found_x found_y
+
+apart_in : (x y : Item) (k j : ℕ) (items : List Item) → k ≢ j → Apart items → item_in k items ≡ Some x → item_in j items ≡ Some y → IsApartFrom x y
+apart_in x y k j [] other far found_x found_y = absurd (none_some found_x)
+apart_in x y k j (z ∷ rest) other far found_x found_y =
+    apart_in_test z x y k j rest (z.id.0 == k) (z.id.0 == j) refl refl other far.0 found_x found_y (apart_in x y k j rest other far.1)
+
+pub names_apart : (h : History) (v : Listing) (id other : ℕ) (x y : Item) → IsOf h v → id ≢ other → item_in id v.items ≡ Some x → item_in other v.items ≡ Some y → IsApartFrom x y
+names_apart h v id other x y is apart found_x found_y = apart_in x y id other v.items apart (good_of h v is).apart found_x found_y
+
+-- a lawful list is numbered from 1 on
+pub numbered_of : (h : History) (v : Listing) → IsOf h v → IsNumbered 1 v.items v.next
+numbered_of h v is = (good_of h v is).numbered

@@ -1,8 +1,7 @@
 -- Each row keeps its item sound.
-use Rattle.std.proofs.Common.{◌≡◌, ◌≢◌, ℕ, zero, suc, ◌+◌, ◌^◌, ◌<◌, ◌≤◌, ◌⊎◌, List, [], ◌∷◌, cond, true, false, Bool, not, ◌&&◌, ◌||◌, max, Option, Some, None, IsTrue, inl, inr, refl, ap, sym, subst, ◌∙◌, arith}
-use Rattle.std.specs.Prelude.{IsSome, is_some, IfSome}
+use Rattle.std.proofs.Common.{◌≡◌, ◌≢◌, ℕ, ◌+◌, ◌^◌, ◌≤◌, ◌⊎◌, List, [], ◌∷◌, cond, true, false, Bool, not, ◌||◌, Option, Some, None, inl, inr, refl, ap, sym, subst, ◌∙◌, arith}
+use Rattle.std.specs.Prelude.{is_some, IfSome}
 use Rattle.std.proofs.lemmas.Bool.{false≢true}
-use Rattle.std.proofs.lemmas.Bool.Decides.{nat_tests}
 use Rattle.dm_types.specs.declared.item.Item.{Item}
 use Rattle.dm_types.specs.declared.item.ItemId.{ItemId}
 use Rattle.dm_types.specs.declared.item.Attempt.{Attempt}
@@ -21,11 +20,10 @@ use Rattle.dm_types.specs.declared.entry.Entry.{Entry}
 use Rattle.dm_types.specs.declared.entry.Entry.TheVariants as entries
 use Rattle.dm_policy.specs.declared.mode.ModeFacts.{ModeFacts}
 use Rattle.dm_policy.specs.Mode.{asked_mode, asks_user, by_user, can_continue, from_start, is_invalid, is_last_attempt, mode_by, placed_mode}
-use Rattle.dm_slice.specs.Words.{IsNormal, IsWithin, cover_end, end_of}
-use Rattle.dm_slice.specs.Cover.{IsWithinTotal}
+use Rattle.dm_slice.specs.Words.{IsNormal, IsWithin, cover_end}
 use Rattle.dm_item.specs.Fields.{added_item, is_gone, is_running, no_bytes, stopped}
 use Rattle.dm_item.specs.Row.{Further, IsBegun, IsDescribed, IsFinishing, IsProgress, IsRestarted, IsTotalOf, allows, begins_in, changed, described_item, facts_of, is_cancelled, is_complete, is_finishing, is_interrupted, is_paused, is_waiting, mode_in, mode_of_item, restarted_item, stopped_item, stopped_reason}
-use Rattle.dm_item.specs.Listing.{IsCounted, IsCovered, IsDigest, IsDigestOf, IsFullFor, IsReasonOf, IsSound, IsTold, IsWhole}
+use Rattle.dm_item.specs.Restored.{IsCovered, IsDigestOf, IsReasonOf, IsSound}
 
 -- whether a mode is invalid rests on the attempt and the reason alone
 
@@ -55,7 +53,7 @@ invalid-last : (last : Bool) (mode : Mode) → is_invalid (cond last modes.Inval
 invalid-last true mode = refl
 invalid-last false mode = refl
 
-invalid-mode_by : (reason : Option Reason) (facts : ModeFacts) → is_invalid (mode_by reason facts) ≡ is_last_attempt facts || is_invalid (asked_mode reason)
+pub invalid-mode_by : (reason : Option Reason) (facts : ModeFacts) → is_invalid (mode_by reason facts) ≡ is_last_attempt facts || is_invalid (asked_mode reason)
 invalid-mode_by reason facts =
     invalid-last (is_last_attempt facts) _
     ∙ ap (λ (b : Bool). is_last_attempt facts || b) (invalid-asked (asks_user facts) (placed_mode reason facts) ∙ invalid-placed (can_continue facts) (asked_mode reason))

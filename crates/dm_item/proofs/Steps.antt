@@ -1,6 +1,6 @@
 -- One more lawful entry does to the items of a history what the table says.
-use Rattle.std.proofs.Common.{◌≡◌, ◌≢◌, ℕ, zero, suc, ◌+◌, ◌<◌, ◌≤◌, ◌⊎◌, List, [], ◌∷◌, ◌++◌, map, cond, true, false, Bool, not, ◌&&◌, ◌||◌, ◌==◌, Option, Some, None, IsTrue, inl, inr, refl, ap, sym, subst, ◌∙◌, arith, add-one}
-use Rattle.std.specs.Prelude.{IsSome, is_some, option_to_list, option_and_then}
+use Rattle.std.proofs.Common.{◌≡◌, ◌≢◌, ℕ, suc, ◌+◌, ◌<◌, ◌≤◌, List, [], ◌∷◌, ◌++◌, map, cond, true, false, Bool, ◌&&◌, ◌==◌, Option, Some, None, inl, inr, refl, ap, sym, subst, ◌∙◌, arith, add-one}
+use Rattle.std.specs.Prelude.{is_some, option_to_list, option_and_then}
 use Rattle.std.proofs.lemmas.Bool.{cases_eq, false≢true}
 use Rattle.std.proofs.lemmas.Bool.Decides.{nat_tests}
 use Rattle.dm_types.specs.declared.item.Item.{Item}
@@ -8,11 +8,11 @@ use Rattle.dm_types.specs.declared.item.ItemId.{ItemId}
 use Rattle.dm_types.specs.declared.entry.Entry.{Entry}
 use Rattle.dm_types.specs.declared.entry.Entry.TheVariants as entries
 use Rattle.dm_item.specs.History.{first_some, there, get, map_some, newest, oldest, since, stands}
-use Rattle.dm_item.specs.Fields.{added_id, added_item, base_of, finishing_total, id_of, is_early, is_early_entry, is_empty, is_for, is_gone, is_restarted, item_at, item_of, items_below, looked_back, next_of, own, reopened_next}
-use Rattle.dm_item.specs.Row.{Further, allows, begun_item, changed, described_item, name_of, restarted_item, stopped_item}
-use Rattle.dm_item.specs.Listing.{IsAbove, Listing, Meets, Row, applied, item_in, items_after}
+use Rattle.dm_item.specs.Fields.{added_id, added_item, base_of, finishing_total, id_of, is_early, is_early_entry, is_for, is_gone, is_restarted, item_at, item_of, items_below, looked_back, next_of, own, reopened_next}
+use Rattle.dm_item.specs.Row.{Further, allows, begun_item, changed, target_of, restarted_item, stopped_item}
+use Rattle.dm_item.specs.Listing.{Listing, Meets, Row, applied, item_in, items_after}
 use Rattle.dm_item.specs.Lawful.{IsLawfulBack, left_by}
-use Rattle.dm_item.proofs.Looks.{FinishingHasKey, Fresh, nothing, opened, Present, present, item-added, item-reopened, item-restored, no_gone, one_gone, one_more, step_began, step_described, no_finishing, all_since, newest-fresh}
+use Rattle.dm_item.proofs.Looks.{FinishingHasKey, Fresh, nothing, opened, present, item-added, item-reopened, item-restored, one_gone, one_more, step_began, step_described, no_finishing, all_since}
 use Rattle.dm_item.proofs.Below.{Found, IsIndexed, above_below, below-edit, below-none, below-same, below-stopped, edit-after, effect, eq_false, eq_true, in_below}
 
 -- the entries of one id
@@ -87,7 +87,7 @@ record Stepped (e : Entry) (g : List Entry) (item : Item) : Type 0 where
   is : item_of (e ∷ g) ≡ effect e item
   keyed : FinishingHasKey (e ∷ g) (changed e item)
 
-stepped : (e : Entry) (id : ItemId) (g : List Entry) (items : List Item) (item : Item) → name_of e ≡ Some id → item_of g ≡ Some item → FinishingHasKey g item → Further e items item → Stepped e g item
+stepped : (e : Entry) (id : ItemId) (g : List Entry) (items : List Item) (item : Item) → target_of e ≡ Some id → item_of g ≡ Some item → FinishingHasKey g item → Further e items item → Stepped e g item
 stepped (entries.Added id word address wish digest at) named g items item name found has further = absurd (cc)
 stepped (entries.Began id attempt by at) named g items item name found has further =
     record { is = one_more (entries.Began id attempt by at) g item refl refl (λ base is. step_began id attempt by at g base ∙ ap (begun_item attempt by) is) found; keyed = has }
@@ -116,7 +116,7 @@ stepped (entries.Asked id) named g items item name found has further =
 
 -- an entry that names an item, and is none of the three others
 record Plain (e : Entry) (id : ItemId) : Type 0 where
-  name : name_of e ≡ Some id
+  name : target_of e ≡ Some id
   named : id_of e ≡ Some id.0
   no_added : added_id e ≡ None
   no_next : reopened_next e ≡ None
@@ -404,7 +404,7 @@ left_by_step limit e h lawful meets = (next_of_lawful limit e h (sane_lawful h l
 -- What one more lawful entry is to an id.
 pub data StepAt (e : Entry) (h : List Entry) (k : ℕ) : Type 0 where
   elsewhere : own k (e ∷ h) ≡ own k h → StepAt e h k
-  named_here : (id : ItemId) (item : Item) → name_of e ≡ Some id → item_at h k ≡ Some item → allows e item.phase ≡ true → Further e (items_below (item_at h) (next_of h)) item → own k (e ∷ h) ≡ e ∷ own k h → item_at (e ∷ h) k ≡ effect e item → StepAt e h k
+  named_here : (id : ItemId) (item : Item) → target_of e ≡ Some id → item_at h k ≡ Some item → allows e item.phase ≡ true → Further e (items_below (item_at h) (next_of h)) item → own k (e ∷ h) ≡ e ∷ own k h → item_at (e ∷ h) k ≡ effect e item → StepAt e h k
   opened_all : (next at : ℕ) → e ≡ entries.Reopened next at → own k (e ∷ h) ≡ e ∷ own k h → item_at (e ∷ h) k ≡ map_some stopped_item (item_at h k) → StepAt e h k
   made_here : Fresh (own k h) → own k (e ∷ h) ≡ e ∷ own k h → there (base_of e) ≡ true → StepAt e h k
 

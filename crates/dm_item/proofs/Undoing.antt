@@ -13,7 +13,8 @@ use Rattle.dm_types.specs.declared.entry.Entry.TheVariants as entries
 use Rattle.dm_item.specs.Before.{Earlier, HasTaken, adds_or_changes, earlier_of, items_back, taken_back}
 use Rattle.dm_item.specs.Fields.{added_item}
 use Rattle.dm_item.specs.Row.{changed}
-use Rattle.dm_item.specs.Listing.{IsKept, Listing, Row, Takes, applied, changed_at, item_in, place_in, put_in}
+use Rattle.dm_item.specs.Listing.{Listing, Row, Takes, applied, changed_at, item_in, place_in, put_in}
+use Rattle.dm_item.specs.Kept.{IsKept}
 use Rattle.dm_item.proofs.Numbers.{changed-id}
 
 eq-same : (n m : ℕ) → (n == m) ≡ true → n ≡ m
@@ -24,7 +25,7 @@ found-here : (id : ℕ) (first : Item) (rest : List Item) (item : Item) (test : 
 found-here id first rest item true here later found = let same : first ≡ item = cc in ap (λ (i : Item). i.id.0) (sym same) ∙ eq-same first.id.0 id here
 found-here id first rest item false here later found = later found
 
-found-id : (id : ℕ) (items : List Item) (item : Item) → item_in id items ≡ Some item → item.id.0 ≡ id
+pub found-id : (id : ℕ) (items : List Item) (item : Item) → item_in id items ≡ Some item → item.id.0 ≡ id
 found-id id [] item is = absurd (cc)
 found-id id (first ∷ rest) item is = found-here id first rest item (first.id.0 == id) refl (found-id id rest item) is
 

@@ -3,7 +3,8 @@ use Rattle.std.specs.Prelude.{◌≡◌, ℕ, ◌-◌, Bool, true, false, List, 
 use Rattle.dm_types.specs.declared.item.Item.{Item}
 use Rattle.dm_types.specs.declared.entry.Entry.{Entry}
 use Rattle.dm_types.specs.declared.entry.Entry.TheVariants as entries
-use Rattle.dm_item.specs.Listing.{IsKept, Listing, Takes, item_named, put_in}
+use Rattle.dm_item.specs.Listing.{Listing, Takes, target_in, put_in}
+use Rattle.dm_item.specs.Kept.{IsKept}
 
 -- what a list was, as far as one entry changes it
 pub record Earlier : Type 0 where
@@ -36,7 +37,7 @@ adds_or_changes (entries.Asked id) = true
 
 -- what an entry will change in the list, as it is now
 abbrev pub earlier_of : Entry → Listing → Earlier
-earlier_of e v = record { next = v.next; is_first = v.is_first; is_early = v.is_early; item = item_named e v.items }
+earlier_of e v = record { next = v.next; is_first = v.is_first; is_early = v.is_early; item = target_in e v.items }
 
 -- this is what the list was before the entry
 pub record IsBefore (v : Listing) (e : Entry) (before : Earlier) : Type 0 where

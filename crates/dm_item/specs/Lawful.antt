@@ -1,5 +1,5 @@
 -- Lawful histories, and the items that they leave. A public history is oldest first.
-use Rattle.std.specs.Prelude.{◌≡◌, ℕ, ◌+◌, ◌<◌, ◌≤◌, IfSome, Bool, false, true, ◌==◌, ◌&&◌, List, [], ◌∷◌, ◌++◌, map, reverse, take, Option}
+use Rattle.std.specs.Prelude.{◌≡◌, ℕ, ◌<◌, ◌≤◌, IfSome, Bool, false, true, List, [], ◌∷◌, ◌++◌, map, reverse, take, Option}
 use Rattle.dm_types.specs.declared.item.Item.{Item}
 use Rattle.dm_types.specs.declared.entry.Entry.{Entry}
 use Rattle.dm_types.specs.declared.entry.Entry.TheVariants as entries

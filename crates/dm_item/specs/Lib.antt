@@ -1,6 +1,11 @@
 pub mod Before
-pub mod History
+pub mod Declines
 pub mod Fields
-pub mod Row
-pub mod Listing
+pub mod History
+pub mod Kept
 pub mod Lawful
+pub mod Listing
+pub mod Ready
+pub mod Restored
+pub mod Row
+pub mod Words

@@ -1,5 +1,5 @@
 -- What each entry needs of its item, and what it makes of it.
-use Rattle.std.specs.Prelude.{◌≡◌, ◌≢◌, ℕ, ◌+◌, ◌≤◌, ◌<◌, ◌^◌, Bool, true, false, not, ◌&&◌, ◌||◌, ◌==◌, nat_lt, nat_le, if◌then◌else◌, ◌⊎◌, List, [], ◌∷◌, map, Option, Some, None, is_some, IsSome, IfSome, IsTrue}
+use Rattle.std.specs.Prelude.{◌≡◌, ◌≢◌, ℕ, ◌+◌, ◌≤◌, ◌<◌, ◌^◌, Bool, true, false, not, ◌&&◌, ◌||◌, nat_lt, if◌then◌else◌, List, [], ◌∷◌, Option, Some, None, is_some, IsSome, IfSome, IsTrue}
 use Rattle.dm_types.specs.declared.item.Item.{Item}
 use Rattle.dm_types.specs.declared.item.ItemId.{ItemId}
 use Rattle.dm_types.specs.declared.item.Attempt.{Attempt}
@@ -17,20 +17,14 @@ use Rattle.dm_types.specs.declared.reason.Reason.{Reason}
 use Rattle.dm_types.specs.declared.reason.Reason.TheVariants as reasons
 use Rattle.dm_types.specs.declared.entry.Entry.{Entry}
 use Rattle.dm_types.specs.declared.entry.Entry.TheVariants as entries
+use Rattle.dm_types.specs.Name.{fold_case}
 use Rattle.dm_policy.specs.declared.mode.ModeFacts.{ModeFacts}
 use Rattle.dm_policy.specs.Mode.{mode_by, because_by, is_continue, is_immediate, is_invalid, is_restart}
 use Rattle.dm_slice.specs.Words.{Holds, IsFull, covered, cover_end}
 use Rattle.dm_slice.specs.Cover.{IsCoverWithin}
 use Rattle.dm_item.specs.Fields.{no_bytes, is_running, stopped}
 
--- a byte with ASCII capitals made small
-abbrev pub small_of : ℕ → ℕ
-small_of byte = if nat_le 65 byte && nat_le byte 90 then byte + 32 else byte
-
-abbrev pub fold_case : List ℕ → List ℕ
-fold_case bytes = map small_of bytes
-
--- the names are the same, in ASCII case folding
+-- the two names are taken for one
 abbrev pub IsSameName : List ℕ → List ℕ → Type 0
 IsSameName name other = fold_case name ≡ fold_case other
 
@@ -69,41 +63,23 @@ mode_in (phases.Interrupted reason) mode = mode
 abbrev pub mode_of_item : Item → Mode
 mode_of_item item = mode_in item.phase (mode_by item.reason (facts_of item))
 
--- the id of the item that must be there
-abbrev pub name_of : Entry → Option ItemId
-name_of (entries.Added id word address wish digest at) = None
-name_of (entries.Reopened next at) = None
-name_of (entries.Restored item) = None
-name_of (entries.Began id attempt by at) = Some id
-name_of (entries.Described id key last_address total name modified) = Some id
-name_of (entries.Progress id slices) = Some id
-name_of (entries.Broke id reason) = Some id
-name_of (entries.Paused id) = Some id
-name_of (entries.Cancelled id) = Some id
-name_of (entries.Restarted id epoch because) = Some id
-name_of (entries.Finishing id total) = Some id
-name_of (entries.Done id digest at) = Some id
-name_of (entries.Removed id) = Some id
-name_of (entries.Archived id) = Some id
-name_of (entries.Asked id) = Some id
-
--- the number of an entry's kind
-abbrev pub kind_of : Entry → ℕ
-kind_of (entries.Added id word address wish digest at) = 1
-kind_of (entries.Began id attempt by at) = 2
-kind_of (entries.Described id key last_address total name modified) = 3
-kind_of (entries.Progress id slices) = 4
-kind_of (entries.Broke id reason) = 5
-kind_of (entries.Paused id) = 6
-kind_of (entries.Cancelled id) = 7
-kind_of (entries.Restarted id epoch because) = 8
-kind_of (entries.Finishing id total) = 9
-kind_of (entries.Done id digest at) = 10
-kind_of (entries.Removed id) = 11
-kind_of (entries.Archived id) = 12
-kind_of (entries.Reopened next at) = 13
-kind_of (entries.Restored item) = 14
-kind_of (entries.Asked id) = 15
+-- the id of the item that an entry changes: it must be there
+abbrev pub target_of : Entry → Option ItemId
+target_of (entries.Added id word address wish digest at) = None
+target_of (entries.Reopened next at) = None
+target_of (entries.Restored item) = None
+target_of (entries.Began id attempt by at) = Some id
+target_of (entries.Described id key last_address total name modified) = Some id
+target_of (entries.Progress id slices) = Some id
+target_of (entries.Broke id reason) = Some id
+target_of (entries.Paused id) = Some id
+target_of (entries.Cancelled id) = Some id
+target_of (entries.Restarted id epoch because) = Some id
+target_of (entries.Finishing id total) = Some id
+target_of (entries.Done id digest at) = Some id
+target_of (entries.Removed id) = Some id
+target_of (entries.Archived id) = Some id
+target_of (entries.Asked id) = Some id
 
 abbrev pub is_waiting : Phase → Bool
 is_waiting phases.Waiting = true

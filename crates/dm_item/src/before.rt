@@ -1,11 +1,13 @@
-ghost use Rattle.std.specs.Prelude.{◌≡◌, ◌-◌, IfOk, vec_len, take};
+ghost use Rattle.std.specs.Prelude.{◌≡◌, ◌-◌, false, IfOk, option_map, vec_len, take};
 ghost use Rattle.std.specs.Option.{option_copied};
 ghost use Rattle.dm_item.specs.Before.{items_back};
-ghost use Rattle.dm_item.specs.Listing.{put_in};
+ghost use Rattle.dm_item.specs.Row.{changed};
+ghost use Rattle.dm_item.specs.Listing.{is_light, put_in};
 
+use crate::change::change;
 use crate::copies::copy_item;
 use crate::take::find_place;
-use dm_types::{Item, NoMemory};
+use dm_types::{Entry, Item, NoMemory, let_go};
 use std::alloc::Global;
 use std::marker::Model;
 use std::mem::replace;
@@ -45,6 +47,26 @@ pub(crate) fn copy_found(alloc: Global, item: Option<&Item>) -> Result<Option<It
     }
 }
 
+/// The item as an entry will leave it, where there is one.
+pub(crate) fn changed_copy(
+    alloc: Global,
+    entry: &Entry,
+    item: Option<&Item>,
+) -> Result<Option<Item>, NoMemory>
+    requires { is_light entry.now ≡ false }
+    ensures { IfOk result (λ copy. copy ≡ option_map (changed entry.now) (option_copied item.entry)) }
+{
+    let mut copy = match copy_found(alloc, item) {
+        Ok(Some(copy)) => copy,
+        Ok(None) => return Ok(None),
+        Err(NoMemory) => return Err(NoMemory),
+    };
+    match change(alloc, entry, &mut copy) {
+        Ok(()) => Ok(Some(copy)),
+        Err(NoMemory) => Err(NoMemory),
+    }
+}
+
 /// Puts an item back in the place of the one with its id, or drops the last where there is none to
 /// put back.
 pub(crate) fn put_back(items: &mut Vec<Item>, item: Option<Item>)
@@ -57,7 +79,7 @@ pub(crate) fn put_back(items: &mut Vec<Item>, item: Option<Item>)
 }
 
 /// Puts an item in the place of the first one with its id.
-fn put_item(items: &mut Vec<Item>, item: Item)
+pub(crate) fn put_item(items: &mut Vec<Item>, item: Item)
     ensures { items.new.items ≡ put_in item.id.0 item items.old.items }
 {
     match find_place(items, item.id) {
@@ -65,9 +87,6 @@ fn put_item(items: &mut Vec<Item>, item: Item)
         None => let_go(item),
     }
 }
-
-/// Lets an item go.
-fn let_go(_item: Item) {}
 
 /// Drops the last item, where there is one.
 fn drop_last(items: &mut Vec<Item>)

@@ -3,7 +3,7 @@ ghost use Rattle.dm_item.specs.Fields.{added_item};
 ghost use Rattle.dm_item.specs.Row.{FitsAutos, autos_after, begun_item, changed, described_item, restarted_item, stopped_item};
 ghost use Rattle.dm_item.specs.Listing.{is_broke, is_light};
 
-use crate::copies::{copy_key, copy_slices, no_bytes};
+use crate::copies::{copy_slices, no_bytes};
 use dm_types::{
     Attempt, By, Entry, Epoch, Item, ItemId, Key, NoMemory, Phase, Reason, Slices, Text,
 };
@@ -71,7 +71,7 @@ fn describe(
         ≡ described_item key.now last_address.now total name.now modified.now item.old) }
     ensures err { OnErr result (item.new ≡ item.old) }
 {
-    let key = copy_key(alloc, key)?;
+    let key = key.copy(alloc)?;
     let last_address = last_address.copy(alloc)?;
     let name = name.copy(alloc)?;
     let modified = modified.copy(alloc)?;

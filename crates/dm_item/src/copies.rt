@@ -4,16 +4,6 @@ ghost use Rattle.dm_item.specs.Fields.{no_bytes};
 use dm_types::{Item, Key, NoMemory, Slice, Slices, Text};
 use std::alloc::Global;
 
-/// The same key again.
-pub(crate) fn copy_key(alloc: Global, key: &Key) -> Result<Key, NoMemory>
-    ensures { IfOk result (λ copy. copy ≡ key.now) }
-{
-    match key {
-        Key::Strong(tag) => Ok(Key::Strong(tag.copy(alloc)?)),
-        Key::Once(id, attempt) => Ok(Key::Once(*id, *attempt)),
-    }
-}
-
 /// The same slices again.
 pub(crate) fn copy_slices(alloc: Global, slices: &Slices) -> Result<Slices, NoMemory>
     ensures { IfOk result (λ copy. copy ≡ slices.now) }
@@ -63,13 +53,13 @@ fn copy_option_key(alloc: Global, key: &Option<Key>) -> Result<Option<Key>, NoMe
     ensures { IfOk result (λ copy. copy ≡ key.now) }
 {
     match key {
-        Some(key) => Ok(Some(copy_key(alloc, key)?)),
+        Some(key) => Ok(Some(key.copy(alloc)?)),
         None => Ok(None),
     }
 }
 
 /// The same item again.
-pub fn copy_item(alloc: Global, item: &Item) -> Result<Item, NoMemory>
+pub(crate) fn copy_item(alloc: Global, item: &Item) -> Result<Item, NoMemory>
     ensures { IfOk result (λ copy. copy ≡ item.now) }
 {
     let word = item.word.copy(alloc)?;

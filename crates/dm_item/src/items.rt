@@ -1,15 +1,15 @@
 ghost use Rattle.std.specs.Prelude.{◌≡◌, ◌≢◌, ◌↔◌, ◌+◌, ◌≤◌, ◌⊎◌, ◌++◌, ◌∷◌, [], cond, false, IsTrue, IsSome, IfSome, IfNone, IfOk, IfErr, OnOk, OnErr, length, map, option_map};
 ghost use Rattle.std.specs.Option.{option_copied};
-ghost use Rattle.dm_item.specs.Listing.{HasNoWord, IsWordOf};
+ghost use Rattle.dm_item.specs.Words.{HasNoWord, IsWordOf};
 
 use crate::ApplyFault;
-use crate::before::{Before, copy_found, put_back};
+use crate::before::{Before, changed_copy, copy_found, put_back, put_item};
 use crate::change::make_item;
 use crate::copies::copy_item;
 use crate::names::is_free_word;
 use crate::restored::is_restorable;
-use crate::rows::{mode_of_item, name_of};
-use crate::take::{add_restored, change_named, find_row, push_item, stop_every};
+use crate::rows::{is_light, mode_of_item, target_of};
+use crate::take::{add_restored, change_target, find_row, push_item, stop_every};
 use dm_types::{Entry, Item, ItemId, Listed, Mode, NoMemory, Text};
 use std::alloc::Global;
 use std::marker::Model;
@@ -26,7 +26,8 @@ pub struct Items {
 }
 
 impl Model for Items {
-    ghost use Rattle.dm_item.specs.Listing.{Listing, IsKept};
+    ghost use Rattle.dm_item.specs.Listing.{Listing};
+    ghost use Rattle.dm_item.specs.Kept.{IsKept};
 
     ghost Value = { Listing };
 
@@ -50,9 +51,13 @@ impl Model for Items {
 impl Items {
     ghost use Rattle.dm_item.specs.Before.{HasTaken, IsBefore};
     ghost use Rattle.dm_item.specs.Fields.{added_item};
-    ghost use Rattle.dm_item.specs.Row.{mode_of_item, name_of, stopped_item};
+    ghost use Rattle.dm_item.specs.Ready.{IsReady, adds_item};
+    ghost use Rattle.dm_item.specs.Row.{mode_of_item, target_of, stopped_item};
     ghost use Rattle.dm_item.specs.Lawful.{History, IsOf, IsShort, KeepsHistory, TookSome, short_history};
-    ghost use Rattle.dm_item.specs.Listing.{AddedDeclines, Admits, Declines, HasRoom, HasWordOf, IsFreeWord, IsRestorable, NamedDeclines, ReopenedDeclines, RestoredDeclines, RowAt, Takes, empty_list, is_light, item_in, item_named, items_after};
+    ghost use Rattle.dm_item.specs.Words.{HasWordOf, IsFreeWord};
+    ghost use Rattle.dm_item.specs.Restored.{IsRestorable};
+    ghost use Rattle.dm_item.specs.Listing.{Admits, HasRoom, RowAt, Takes, empty_list, is_light, item_in, items_after, put_in, target_in};
+    ghost use Rattle.dm_item.specs.Declines.{AddedDeclines, Declines, TargetDeclines, ReopenedDeclines, RestoredDeclines};
     ghost use Rattle.dm_item.specs.declared.fault.ApplyFault.TheVariants as faults;
 
     /// An empty list that takes on at most `limit` items.
@@ -110,18 +115,7 @@ impl Items {
             Entry::Added { id, word, .. } => self.check_added(*id, word),
             Entry::Reopened { next, .. } => self.check_reopened(*next),
             Entry::Restored { item } => self.check_restored(item),
-            Entry::Began { .. } => self.check_named(entry),
-            Entry::Described { .. } => self.check_named(entry),
-            Entry::Progress { .. } => self.check_named(entry),
-            Entry::Broke { .. } => self.check_named(entry),
-            Entry::Paused { .. } => self.check_named(entry),
-            Entry::Cancelled { .. } => self.check_named(entry),
-            Entry::Restarted { .. } => self.check_named(entry),
-            Entry::Finishing { .. } => self.check_named(entry),
-            Entry::Done { .. } => self.check_named(entry),
-            Entry::Removed { .. } => self.check_named(entry),
-            Entry::Archived { .. } => self.check_named(entry),
-            Entry::Asked { .. } => self.check_named(entry),
+            _ => self.check_target(entry),
         }
     }
 
@@ -144,26 +138,55 @@ impl Items {
             } => self.add(*id, word, address, wish, *digest, *at),
             Entry::Reopened { next, .. } => self.reopen(*next),
             Entry::Restored { item } => self.restore(item),
-            Entry::Began { .. } => self.take_named(entry),
-            Entry::Described { .. } => self.take_named(entry),
-            Entry::Progress { .. } => self.take_named(entry),
-            Entry::Broke { .. } => self.take_named(entry),
-            Entry::Paused { .. } => self.take_named(entry),
-            Entry::Cancelled { .. } => self.take_named(entry),
-            Entry::Restarted { .. } => self.take_named(entry),
-            Entry::Finishing { .. } => self.take_named(entry),
-            Entry::Done { .. } => self.take_named(entry),
-            Entry::Removed { .. } => self.take_named(entry),
-            Entry::Archived { .. } => self.take_named(entry),
-            Entry::Asked { .. } => self.take_named(entry),
+            _ => self.take_target(entry),
         }
+    }
+
+    /// All that the list needs to take this entry later, where that wants memory: its item as the
+    /// entry will leave it. It changes nothing.
+    pub fn ready(&self, entry: &Entry) -> Result<Option<Item>, NoMemory>
+        ensures { IfOk result (IsReady self.now entry.now) }
+    {
+        if is_light(entry) {
+            return Ok(None);
+        }
+        changed_copy(self.alloc, entry, self.target(entry))
+    }
+
+    /// Takes an entry that the list admits, with what `ready` made for it of the list as it is now.
+    /// It takes no memory. An entry that adds an item goes by `apply`.
+    pub fn put(&mut self, entry: &Entry, item: Option<Item>)
+        requires stays { adds_item entry.now ≡ false }
+        requires admitted { Admits self.old entry.now }
+        requires ready { IsReady self.old entry.now item }
+        ensures { Takes entry.now self.old self.new }
+    {
+        match item {
+            Some(item) => self.put_changed(item),
+            None => match self.apply(entry) {
+                Ok(()) => {}
+                Err(_) => unreachable!(),
+            },
+        }
+    }
+
+    fn put_changed(&mut self, item: Item)
+        ensures { self.new ≡ record self.old {
+          is_first = false;
+          is_early = false;
+          items = put_in item.id.0 item self.old.items;
+        } }
+    {
+        put_item(&mut self.items, item);
+        self.first = false;
+        self.early = false;
     }
 
     /// What the list is now, as far as this entry will change it, for `take_back`.
     pub fn before(&self, entry: &Entry) -> Result<Before, NoMemory>
         ensures { IfOk result (IsBefore self.now entry.now) }
     {
-        match copy_found(self.alloc, self.named(entry)) {
+        match copy_found(self.alloc, self.target(entry)) {
             Ok(item) => Ok(Before {
                 next: self.next,
                 first: self.first,
@@ -227,19 +250,19 @@ impl Items {
     }
 
     /// The item that an entry names, where it names one that is there.
-    fn named(&self, entry: &Entry) -> Option<&Item>
-        ensures { option_copied result ≡ item_named entry.now self.now.items }
+    fn target(&self, entry: &Entry) -> Option<&Item>
+        ensures { option_copied result ≡ target_in entry.now self.now.items }
     {
-        match name_of(entry) {
+        match target_of(entry) {
             Some(id) => self.get(id),
             None => None,
         }
     }
 
-    fn check_named(&self, entry: &Entry) -> Result<(), ApplyFault>
-        requires { IsSome (name_of entry.now) }
-        ensures ok { OnOk result (RowAt entry.now self.now.items (name_of entry.now)) }
-        ensures err { IfErr result (NamedDeclines entry.now self.now.items) }
+    fn check_target(&self, entry: &Entry) -> Result<(), ApplyFault>
+        requires { IsSome (target_of entry.now) }
+        ensures ok { OnOk result (RowAt entry.now self.now.items (target_of entry.now)) }
+        ensures err { IfErr result (TargetDeclines entry.now self.now.items) }
         ensures light { IfErr result (λ fault. fault ≢ faults.NoMemory) }
     {
         match find_row(entry, &self.items) {
@@ -248,19 +271,19 @@ impl Items {
         }
     }
 
-    fn take_named(&mut self, entry: &Entry) -> Result<(), ApplyFault>
-        requires { IsSome (name_of entry.now) }
-        ensures ok { OnOk result (RowAt entry.now self.old.items (name_of entry.now)) }
+    fn take_target(&mut self, entry: &Entry) -> Result<(), ApplyFault>
+        requires { IsSome (target_of entry.now) }
+        ensures ok { OnOk result (RowAt entry.now self.old.items (target_of entry.now)) }
         ensures value { OnOk result (self.new ≡ record self.old {
           is_first = false;
           is_early = false;
-          items = items_after entry.now (name_of entry.now) self.old.items;
+          items = items_after entry.now (target_of entry.now) self.old.items;
         }) }
-        ensures err { IfErr result (NamedDeclines entry.now self.old.items) }
+        ensures err { IfErr result (TargetDeclines entry.now self.old.items) }
         ensures light { IsTrue (is_light entry.now) → IfErr result (λ fault. fault ≢ faults.NoMemory) }
         ensures same { OnErr result (self.new ≡ self.old) }
     {
-        match change_named(self.alloc, entry, &mut self.items) {
+        match change_target(self.alloc, entry, &mut self.items) {
             Ok(()) => {
                 self.first = false;
                 self.early = false;

@@ -14,13 +14,7 @@ mod rows;
 mod take;
 
 pub use before::Before;
-pub use copies::copy_item;
 pub use fault::ApplyFault;
 pub use items::Items;
 pub use laws::history_laws;
-pub use names::same_name;
-pub use restored::is_sound;
-pub use rows::{facts_of, mode_of_item};
-
-#[cfg(test)]
-mod tests;
+pub use rows::mode_of_item;

@@ -1,34 +1,9 @@
 ghost use Rattle.std.specs.Prelude.{◌≡◌, ◌↔◌, IsTrue};
-ghost use Rattle.dm_item.specs.Row.{HasName, IsFreeName, IsSameName, fold_case, is_cancelled, small_of};
-ghost use Rattle.dm_item.specs.Listing.{HasNoWord, HasOwnName, IsAbove, IsApartFrom, IsFreeWord};
+ghost use Rattle.dm_item.specs.Row.{HasName, IsFreeName, is_cancelled};
+ghost use Rattle.dm_item.specs.Words.{HasNoWord, IsFreeWord};
+ghost use Rattle.dm_item.specs.Restored.{HasOwnName, IsAbove, IsApartFrom};
 
-use dm_types::{Item, ItemId, Phase};
-
-/// A byte with ASCII capitals made small.
-fn small(byte: u8) -> u8
-    ensures { result ≡ small_of byte }
-{
-    if (b'A'..=b'Z').contains(&byte) {
-        byte + 32
-    } else {
-        byte
-    }
-}
-
-/// Whether two names are the same in ASCII case folding.
-pub fn same_name(name: &[u8], other: &[u8]) -> bool
-    ensures { IsTrue result ↔ IsSameName name.now other.now }
-{
-    match name {
-        [] => other.is_empty(),
-        [byte, rest @ ..] => match other {
-            [] => false,
-            [other_byte, other_rest @ ..] => {
-                small(*byte) == small(*other_byte) && same_name(rest, other_rest)
-            }
-        },
-    }
-}
+use dm_types::{Item, ItemId, Phase, same_folded};
 
 /// Whether no other item than the one with this id has the name; cancelled items don't count.
 pub(crate) fn is_free_name(id: ItemId, name: &[u8], items: &[Item]) -> bool
@@ -48,7 +23,7 @@ fn has_name(item: &Item, name: &[u8]) -> bool
     ensures { IsTrue result ↔ HasName item.now name.now }
 {
     match &item.name {
-        Some(other) => same_name(name, other.bytes()),
+        Some(other) => same_folded(name, other.bytes()),
         None => false,
     }
 }

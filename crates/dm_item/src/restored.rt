@@ -2,7 +2,7 @@ ghost use Rattle.std.specs.Prelude.{◌≡◌, ◌↔◌, ◌||◌, IsTrue, fals
 ghost use Rattle.dm_policy.specs.Mode.{is_invalid};
 ghost use Rattle.dm_item.specs.Fields.{no_bytes};
 ghost use Rattle.dm_item.specs.Row.{is_complete, is_finishing, is_waiting, mode_of_item};
-ghost use Rattle.dm_item.specs.Listing.{IsCounted, IsCovered, IsDigest, IsDigestOf, IsFullFor, IsReasonOf, IsRestorable, IsSound, IsTold, IsWhole};
+ghost use Rattle.dm_item.specs.Restored.{IsCounted, IsCovered, IsDigest, IsDigestOf, IsFullFor, IsReasonOf, IsRestorable, IsSound, IsTold, IsWhole};
 
 use crate::conditions::{is_small, is_stated};
 use crate::names::{has_own_name, is_above, is_free_word};
@@ -25,7 +25,7 @@ pub(crate) fn is_restorable(early: bool, next: u32, items: &[Item], item: &Item)
 }
 
 /// Whether the item is as a lawful history leaves one.
-pub fn is_sound(item: &Item) -> bool
+fn is_sound(item: &Item) -> bool
     ensures { IsTrue result ↔ IsSound item.now }
 {
     is_covered(item.total, item.slices.items())

@@ -1,14 +1,15 @@
 ghost use Rattle.std.specs.Prelude.{◌≡◌, ◌↔◌, IsTrue, IsSome, None, Some, List};
-ghost use Rattle.dm_item.specs.Row.{allows, is_paused, is_waiting, is_interrupted, is_finishing, is_complete, is_cancelled, kind_of, name_of, mode_of_item, facts_of, mode_in, is_strong};
+ghost use Rattle.dm_item.specs.Row.{allows, is_paused, is_waiting, is_interrupted, is_finishing, is_complete, is_cancelled, target_of, mode_of_item, facts_of, mode_in, is_strong};
 ghost use Rattle.dm_item.specs.Fields.{is_running};
+ghost use Rattle.dm_item.specs.Listing.{is_light};
 ghost use Rattle.dm_item.specs.Lawful.{IsOf, short_history};
 
 use dm_policy::{ModeFacts, mode_of};
 use dm_types::{By, Entry, Item, ItemId, Key, Mode, Phase};
 
-/// The id of the item that must be there.
-pub(crate) fn name_of(entry: &Entry) -> Option<ItemId>
-    ensures { result ≡ name_of entry.now }
+/// The id of the item that an entry changes: it must be there.
+pub(crate) fn target_of(entry: &Entry) -> Option<ItemId>
+    ensures { result ≡ target_of entry.now }
 {
     match entry {
         Entry::Added { .. } => None,
@@ -26,29 +27,6 @@ pub(crate) fn name_of(entry: &Entry) -> Option<ItemId>
         Entry::Removed { id } => Some(*id),
         Entry::Archived { id } => Some(*id),
         Entry::Asked { id } => Some(*id),
-    }
-}
-
-/// The number of an entry's kind.
-pub(crate) fn kind_of(entry: &Entry) -> u8
-    ensures { result ≡ kind_of entry.now }
-{
-    match entry {
-        Entry::Added { .. } => 1,
-        Entry::Began { .. } => 2,
-        Entry::Described { .. } => 3,
-        Entry::Progress { .. } => 4,
-        Entry::Broke { .. } => 5,
-        Entry::Paused { .. } => 6,
-        Entry::Cancelled { .. } => 7,
-        Entry::Restarted { .. } => 8,
-        Entry::Finishing { .. } => 9,
-        Entry::Done { .. } => 10,
-        Entry::Removed { .. } => 11,
-        Entry::Archived { .. } => 12,
-        Entry::Reopened { .. } => 13,
-        Entry::Restored { .. } => 14,
-        Entry::Asked { .. } => 15,
     }
 }
 
@@ -82,6 +60,20 @@ pub(crate) fn may_come(entry: &Entry, phase: Phase) -> bool
     }
 }
 
+/// Whether the entry's effect on a list wants no memory.
+pub(crate) fn is_light(entry: &Entry) -> bool
+    ensures { result ≡ is_light entry.now }
+{
+    !matches!(
+        entry,
+        Entry::Added { .. }
+            | Entry::Described { .. }
+            | Entry::Progress { .. }
+            | Entry::Restarted { .. }
+            | Entry::Restored { .. }
+    )
+}
+
 /// How an item may go on.
 pub fn mode_of_item(item: &Item) -> Mode
     ensures { result ≡ mode_of_item item.now }
@@ -95,7 +87,7 @@ pub fn mode_of_item(item: &Item) -> Mode
 }
 
 /// What the mode of an item depends on beside its reason.
-pub fn facts_of(item: &Item) -> ModeFacts
+pub(crate) fn facts_of(item: &Item) -> ModeFacts
     ensures { result ≡ facts_of item.now }
 {
     ModeFacts {

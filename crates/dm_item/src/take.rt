@@ -2,27 +2,28 @@ ghost use Rattle.std.specs.Prelude.{◌≡◌, ◌≢◌, ◌<◌, ◌++◌, ◌
 ghost use Rattle.dm_types.specs.declared.item.Item.{Item};
 ghost use Rattle.dm_types.specs.declared.entry.Entry.TheVariants.{Restored};
 ghost use Rattle.dm_item.specs.Fields.{is_gone};
-ghost use Rattle.dm_item.specs.Row.{FitsAutos, Further, allows, changed, name_of, stopped_item};
-ghost use Rattle.dm_item.specs.Listing.{IsRowAt, NamedDeclines, NamedTakes, RowDeclines, is_broke, is_light, place_in};
+ghost use Rattle.dm_item.specs.Row.{FitsAutos, Further, allows, changed, target_of, stopped_item};
+ghost use Rattle.dm_item.specs.Listing.{IsRowAt, TargetTakes, is_broke, is_light, place_in};
+ghost use Rattle.dm_item.specs.Declines.{TargetDeclines, RowDeclines};
 ghost use Rattle.dm_item.specs.declared.fault.ApplyFault.TheVariants as faults;
 
 use crate::ApplyFault;
 use crate::change::{change, stop_all};
 use crate::conditions::is_further;
 use crate::copies::copy_item;
-use crate::rows::{kind_of, may_come, name_of};
+use crate::rows::{may_come, target_of};
 use dm_types::{Entry, Item, ItemId, Listed, NoMemory};
 use std::alloc::Global;
 
 /// Does what an entry says to the item that it names, or says why not.
-pub(crate) fn change_named(
+pub(crate) fn change_target(
     alloc: Global,
     entry: &Entry,
     items: &mut Vec<Item>,
 ) -> Result<(), ApplyFault>
-    requires { IsSome (name_of entry.now) }
-    ensures ok { OnOk result (NamedTakes entry.now items.old.items items.new.items) }
-    ensures err { IfErr result (NamedDeclines entry.now items.old.items) }
+    requires { IsSome (target_of entry.now) }
+    ensures ok { OnOk result (TargetTakes entry.now items.old.items items.new.items) }
+    ensures err { IfErr result (TargetDeclines entry.now items.old.items) }
     ensures light { IsTrue (is_light entry.now) → IfErr result (λ fault. fault ≢ faults.NoMemory) }
     ensures same { OnErr result (items.new.items ≡ items.old.items) }
 {
@@ -38,14 +39,14 @@ pub(crate) fn change_named(
 
 /// The place of the item that an entry names, where its row takes the entry.
 pub(crate) fn find_row(entry: &Entry, items: &[Item]) -> Result<usize, ApplyFault>
-    requires { IsSome (name_of entry.now) }
+    requires { IsSome (target_of entry.now) }
     ensures ok { IfOk result (IsRowAt entry.now items.now) }
     ensures within { IfOk result (λ place. place < length items.now) }
     ensures fits { IfOk result (λ place. (d : Item) → FitsAutos entry.now (slice_index_or items.now place d)) }
-    ensures err { IfErr result (NamedDeclines entry.now items.now) }
+    ensures err { IfErr result (TargetDeclines entry.now items.now) }
     ensures light { IfErr result (λ fault. fault ≢ faults.NoMemory) }
 {
-    let Some(id) = name_of(entry) else {
+    let Some(id) = target_of(entry) else {
         unreachable!();
     };
     let Some(place) = find_place(items, id) else {
@@ -75,7 +76,7 @@ fn check_row(entry: &Entry, items: &[Item], item: &Item) -> Result<(), ApplyFaul
         return Err(ApplyFault::WrongPhase(item.phase));
     }
     if !is_further(entry, items, item) {
-        return Err(ApplyFault::Unlawful(kind_of(entry)));
+        return Err(ApplyFault::Unlawful(entry.kind()));
     }
     Ok(())
 }

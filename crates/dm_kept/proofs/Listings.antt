@@ -8,9 +8,10 @@ use Rattle.dm_types.specs.declared.entry.Entry.{Entry}
 use Rattle.dm_types.specs.declared.entry.Entry.TheVariants as entries
 use Rattle.dm_item.specs.declared.fault.ApplyFault.{ApplyFault}
 use Rattle.dm_item.specs.declared.fault.ApplyFault.TheVariants as faults
-use Rattle.dm_item.specs.Row.{Further, allows, name_of}
+use Rattle.dm_item.specs.Row.{Further, allows, target_of}
 use Rattle.dm_item.specs.Lawful.{History, IsOf}
-use Rattle.dm_item.specs.Listing.{Declines, HasRoomFor, Listing, Meets, NamedDeclines, Row, RowAt, RowDeclines, applied, item_in}
+use Rattle.dm_item.specs.Listing.{HasRoomFor, Listing, Meets, Row, RowAt, applied, item_in}
+use Rattle.dm_item.specs.Declines.{Declines, TargetDeclines, RowDeclines}
 use Rattle.dm_item.proofs.Histories.{meets_limit}
 use Rattle.dm_kept.specs.Room.{MayFollow}
 
@@ -45,11 +46,11 @@ named_not : (entry : Entry) (items : List Item) (fault : ApplyFault) (id : Optio
 named_not entry items fault None met declines = absurd met
 named_not entry items fault (Some id) met declines = found_not entry items fault (item_in id.0 items) met declines
 
-named : (entry : Entry) (items : List Item) (fault : ApplyFault) → RowAt entry items (name_of entry) → NamedDeclines entry items fault → fault ≡ faults.NoMemory
+named : (entry : Entry) (items : List Item) (fault : ApplyFault) → RowAt entry items (target_of entry) → TargetDeclines entry items fault → fault ≡ faults.NoMemory
 named entry items (faults.NoItem id) met declines =
     absurd (subst (Row entry items) declines.1 (subst (RowAt entry items) declines.0 met))
-named entry items (faults.WrongPhase phase) met declines = absurd (named_not entry items (faults.WrongPhase phase) (name_of entry) met declines)
-named entry items (faults.Unlawful kind) met declines = absurd (named_not entry items (faults.Unlawful kind) (name_of entry) met declines)
+named entry items (faults.WrongPhase phase) met declines = absurd (named_not entry items (faults.WrongPhase phase) (target_of entry) met declines)
+named entry items (faults.Unlawful kind) met declines = absurd (named_not entry items (faults.Unlawful kind) (target_of entry) met declines)
 named entry items (faults.Full count) met declines = absurd declines
 named entry items faults.NoMemory met declines = refl
 

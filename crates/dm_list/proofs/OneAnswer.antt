@@ -5,7 +5,8 @@ use Rattle.dm_types.specs.declared.address.Address.{Address}
 use Rattle.dm_types.specs.declared.item.Item.{Item}
 use Rattle.dm_types.specs.declared.item.ItemId.{ItemId}
 use Rattle.dm_item.specs.Lawful.{History}
-use Rattle.dm_item.specs.Listing.{HasNoWord, HasRoom, IsFreeWord, Listing, item_in}
+use Rattle.dm_item.specs.Words.{HasNoWord, IsFreeWord}
+use Rattle.dm_item.specs.Listing.{HasRoom, Listing, item_in}
 use Rattle.dm_desk.specs.Add.{FirstWith, IsFull, IsKnown, IsNew, IsOther, added_by}
 use Rattle.dm_desk.specs.declared.order.Order.{Order}
 use Rattle.dm_request.specs.declared.address.AddressFault.{AddressFault}

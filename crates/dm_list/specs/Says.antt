@@ -6,7 +6,8 @@ use Rattle.dm_types.specs.declared.item.Item.{Item}
 use Rattle.dm_types.specs.declared.item.ItemId.{ItemId}
 use Rattle.dm_item.specs.Fields.{added_item}
 use Rattle.dm_item.specs.Lawful.{History}
-use Rattle.dm_item.specs.Listing.{IsFreeWord, Listing, item_in}
+use Rattle.dm_item.specs.Words.{IsFreeWord}
+use Rattle.dm_item.specs.Listing.{Listing, item_in}
 use Rattle.dm_desk.specs.Add.{IsFull, IsKnown, IsNew, IsOther, added_by}
 use Rattle.dm_desk.specs.declared.order.Order.{Order}
 use Rattle.dm_request.specs.Fault.{IsRead}

@@ -1,6 +1,6 @@
 use Rattle.std.proofs.Common.{sym, subst, ◌∙◌}
 use Rattle.dm_types.specs.declared.entry.Entry.{Entry}
-use Rattle.dm_item.specs.Listing.{Declines}
+use Rattle.dm_item.specs.Declines.{Declines}
 use Rattle.dm_desk.proofs.Changings.{wrong_state}
 use Rattle.dm_desk.proofs.changing.check_change.Goals as goal
 

@@ -1,4 +1,4 @@
-use Rattle.std.proofs.Common.{◌≡◌, ◌++◌, ◌∷◌, [], false, ap, rules, arith}
+use Rattle.std.proofs.Common.{◌≡◌, ◌++◌, ◌∷◌, [], false, ap, rules}
 use Rattle.dm_types.specs.declared.item.Item.{Item}
 use Rattle.dm_item.proofs.Numbers.{kept-push}
 use Rattle.dm_item.proofs.items.Items.add.Goals as goal

@@ -1,5 +1,5 @@
-use Rattle.std.proofs.Common.{◌≡◌, ◌++◌, ◌∷◌, [], rules, arith}
-use Rattle.dm_item.specs.Listing.{IsRestorable}
+use Rattle.std.proofs.Common.{◌≡◌, ◌++◌, ◌∷◌, [], rules}
+use Rattle.dm_item.specs.Restored.{IsRestorable}
 use Rattle.dm_item.proofs.Numbers.{kept-restored}
 use Rattle.dm_item.proofs.items.Items.restore.Goals as goal
 

@@ -1,5 +1,5 @@
 use Rattle.std.proofs.Common.{◌∙◌, subst, sym}
-use Rattle.dm_item.specs.Listing.{IsKept}
+use Rattle.dm_item.specs.Kept.{IsKept}
 use Rattle.dm_item.proofs.Undoing.{back-kept, fields-back, taken-back}
 use Rattle.dm_item.proofs.items.Items.take_back.Goals as goal
 

@@ -1,7 +1,8 @@
-ghost use Rattle.std.specs.Prelude.{IsTrue};
+ghost use Rattle.std.specs.Prelude.{◌≡◌, false, IsTrue};
 ghost use Rattle.dm_item.specs.Before.{adds_or_changes};
+ghost use Rattle.dm_item.specs.Ready.{adds_item};
 
-use crate::*;
+use dm_item::{ApplyFault, Items};
 use dm_types::{Attempt, By, Entry, Epoch, ItemId, Key, Mode, Phase, Reason, Slice, Slices, Text};
 use std::alloc::Global;
 use std::process::Abort;
@@ -286,17 +287,6 @@ fn a_short_history_leaves_the_same_items(rt: HostRuntime) -> Result<(), Fail> {
     Ok(())
 }
 
-#[test]
-fn an_item_is_copied(rt: HostRuntime) -> Result<(), Fail> {
-    let items = in_phase(&rt, rt.alloc(), Phase::Paused);
-    let copy = copy_item(rt.alloc(), items.get(ItemId(1)).ok_or("item 1")?)?;
-    assert!(rt; is_sound(&copy));
-    assert!(rt; copy.word.is(b"w1"));
-    assert!(rt; same_name(b"Hello", b"hELLO"));
-    assert!(rt; !same_name(b"a", b"ab"));
-    Ok(())
-}
-
 /// A running list with 3 bytes of item 1, after an entry was taken and taken back.
 fn taken_back(rt: &impl Abort, alloc: Global, entry: &Entry) -> Items
     requires { IsTrue (adds_or_changes entry.now) }
@@ -316,5 +306,55 @@ fn an_entry_is_taken_back(rt: HostRuntime) -> Result<(), Fail> {
     let item = items.get(ItemId(1)).ok_or("item 1")?;
     assert_eq!(rt; item.phase, Phase::Running);
     assert!(rt; item.slices.items() == slices(&rt, rt.alloc(), 3, false).items());
+    Ok(())
+}
+
+/// The answer of an entry that was made ready, where the list admits it.
+fn put(rt: &impl Abort, items: &mut Items, entry: &Entry) -> Result<(), ApplyFault>
+    requires { adds_item entry.now ≡ false }
+{
+    let item = items.ready(entry).expect(rt, "memory");
+    match items.admits(entry) {
+        Ok(()) => {
+            items.put(entry, item);
+            Ok(())
+        }
+        Err(fault) => Err(fault),
+    }
+}
+
+#[test]
+fn an_entry_is_made_ready_and_put(rt: HostRuntime) -> Result<(), Fail> {
+    let mut items = Items::new(rt.alloc(), 9)?;
+    assert_eq!(rt; take(&mut items, added(&rt, rt.alloc(), 1, b"w1")), Ok(()));
+    let described = Entry::Described {
+        id: ItemId(1),
+        key: Key::Once(ItemId(1), Attempt(1)),
+        last_address: text(&rt, rt.alloc(), b"http://h/b"),
+        total: Some(5),
+        name: text(&rt, rt.alloc(), b"a"),
+        modified: Text::new(rt.alloc()),
+    };
+    let early = put(&rt, &mut items, &described);
+    assert_eq!(rt; early, Err(ApplyFault::WrongPhase(Phase::Waiting)));
+    assert_eq!(rt; put(&rt, &mut items, &began(1, 1, By::User)), Ok(()));
+    assert_eq!(rt; put(&rt, &mut items, &described), Ok(()));
+    let bytes = Entry::Progress {
+        id: ItemId(1),
+        slices: slices(&rt, rt.alloc(), 3, false),
+    };
+    assert_eq!(rt; put(&rt, &mut items, &bytes), Ok(()));
+    let item = items.get(ItemId(1)).ok_or("item 1")?;
+    assert_eq!(rt; (item.attempt, item.total), (Attempt(1), Some(5)));
+    assert!(rt; item.slices.items() == slices(&rt, rt.alloc(), 3, false).items());
+    assert_eq!(rt;
+        put(&rt, &mut items, &Entry::Cancelled { id: ItemId(1) }),
+        Ok(())
+    );
+    assert_eq!(rt;
+        put(&rt, &mut items, &Entry::Removed { id: ItemId(1) }),
+        Ok(())
+    );
+    assert_eq!(rt; items.count(), 0);
     Ok(())
 }

@@ -1,5 +1,5 @@
 use Rattle.dm_item.proofs.Places.{takes_row}
-use Rattle.dm_item.proofs.take.change_named.Goals as goal
+use Rattle.dm_item.proofs.take.change_target.Goals as goal
 
 pub returns-in-Ok-change_in-clause-ok : goal.returns-in-Ok-change_in-clause-ok
 returns-in-Ok-change_in-clause-ok c =

@@ -1,5 +1,0 @@
-use Rattle.std.proofs.Common.{length}
-use Rattle.dm_item.proofs.names.+same_name.Given as goal
-
-abbrev pub decreases-same_name : goal.decreases-same_name
-decreases-same_name l = length l.name.now
