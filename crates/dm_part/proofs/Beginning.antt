@@ -1,11 +1,12 @@
 -- A folder that begins with what a crash left holds each claim that is sound in it.
-use Rattle.std.proofs.Common.{◌≡◌, inl, inr, ℕ, ◌<◌, ◌≤◌, List, length, get_or, Option, Some, None, refl, sym, ◌∙◌, ap, subst, arith}
+use Rattle.std.proofs.Common.{◌≡◌, ◌⊎◌, inl, inr, ℕ, ◌<◌, ◌≤◌, List, length, get_or, Option, Some, None, refl, sym, ◌∙◌, ap, subst, arith}
 use Rattle.std.specs.Option.{option_map}
 use Rattle.std.proofs.lemmas.Option.{same_Some}
-use Rattle.dm_disk_model.specs.File.{File, IsClean}
+use Rattle.dm_disk_model.specs.File.{File, IsClean, IsAllClean}
 use Rattle.dm_disk_model.specs.Folder.{Names, Folder, Contents, EachPrefix, names_of, contents_of, after_changes}
 use Rattle.dm_disk_model.proofs.PendingNames.{each_synced}
 use Rattle.dm_part.specs.Keeping.{Stage, Going, Moving, Published, Claim, LiesAt, FoundAt, IsWhole, IsAtMost, IsShort, IsShortIn, Held, SoundOf, Begins}
+use Rattle.dm_part.proofs.Frame.{lies_under}
 
 module _ (folder : Folder) (contents : Contents) (begins : Begins folder contents) where
   -- the names are the same whichever changes survive, since none is pending
@@ -40,23 +41,31 @@ module _ (folder : Folder) (contents : Contents) (begins : Begins folder content
       begun_each (λ names. (number : ℕ) → names part ≡ Some number → IsAtMost total (folder.file number).bytes)
       (λ number named. short (folder.file number).bytes (sym (begins.reads part) ∙ ap (option_map (λ n. (folder.file n).bytes)) named))
 
-  clean_settled : (number place : ℕ) → place < length (folder.file number).bytes → IsClean (folder.file number) place
-  clean_settled number place below = subst (λ (file : File). IsClean file place) (sym (begins.settled number)) (record { below = below; untouched = tt })
+  -- the file has a name, so that it is clean as it reads
+  settled_lies : (stage : Stage) (part name : List ℕ) (number : ℕ) → LiesAt stage part name number (names_of folder) → IsAllClean (folder.file number)
+  settled_lies stage part name number lies = by (lies_under stage part name number (names_of folder) lies)
+    where
+      by : (names_of folder part ≡ Some number) ⊎ (names_of folder name ≡ Some number) → IsAllClean (folder.file number)
+      by (inl under) = begins.settled part number under
+      by (inr under) = begins.settled name number under
 
   pub sound_held : (says : ℕ → ℕ → Type 0) (claim : Claim) → SoundOf says claim contents → IsShortIn claim.part claim.total contents → Held says folder (record claim { live = claim.saved })
   sound_held says claim sound short =
       let file = lies_where_found claim.stage claim.part claim.name sound.bytes sound.found in
       let number = file.0 in
       let same : (folder.file number).bytes ≡ sound.bytes = file.2 in
+      let settled = settled_lies claim.stage claim.part claim.name number file.1 in
       record {
         number = number;
         lies = begun_each (LiesAt claim.stage claim.part claim.name number) file.1;
         filed = record {
-          clean = λ place has. clean_settled number place (subst (λ (bytes : List ℕ). place < length bytes) (sym same) (sound.said place has).0);
+          clean = λ place has.
+              subst (λ (f : File). IsClean f place) (sym settled)
+              (record { below = subst (λ (bytes : List ℕ). place < length bytes) (sym same) (sound.said place has).0; untouched = tt });
           said = λ place has. subst (λ (bytes : List ℕ). (place < length bytes) × says place (get_or bytes place 0)) (sym same) (sound.said place has);
           holds = λ place has. has;
           short = subst (IsAtMost claim.total) (sym same) sound.short;
-          within = subst (λ (f : File). f.synced ≤ length f.bytes) (sym (begins.settled number)) (omega arith);
+          within = subst (λ (f : File). f.synced ≤ length f.bytes) (sym settled) (omega arith);
           whole = subst (IsWhole claim.stage claim.total claim.digest claim.saved) (sym same) sound.whole;
         };
         short = begun_short claim.part claim.total short;

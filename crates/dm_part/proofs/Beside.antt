@@ -1,16 +1,17 @@
 -- Calls at other names leave a claim and the shortness of a part.
-use Rattle.std.proofs.Common.{Bool, ◌≡◌, ◌≢◌, inl, inr, ℕ, List, length, Option, Result, Ok, Err, sym, subst}
+use Rattle.std.proofs.Common.{◌≡◌, ◌≢◌, ℕ, List, length, Option, Result, sym, subst}
 use Rattle.dm_disk_model.specs.declared.place.Area.{Area}
-use Rattle.dm_disk_model.specs.declared.place.Area.TheVariants.{State, Files}
+use Rattle.dm_disk_model.specs.declared.place.Area.TheVariants.{Files}
 use Rattle.dm_disk_model.specs.declared.place.DiskFault.{DiskFault}
 use Rattle.dm_disk_model.specs.File.{File, IsWritten, IsTorn, IsSynced}
 use Rattle.dm_disk_model.specs.Folder.{Folder, Renamed, Removed, FileSteps, Creates, Changes, SyncsNames, names_of}
 use Rattle.dm_disk_model.specs.Firm.{HasFile}
 use Rattle.dm_disk_model.specs.Disk.{now, DiskState, IsSoundDisk, CreateStep, WriteStep, SyncStep, RenameStep, RemoveStep, SyncNamesStep}
 use Rattle.dm_part.specs.Keeping.{Claim, Held, IsShort}
-use Rattle.dm_part.specs.Laws.{by_test, files_place, HoldsOn, ShortOn, IsOther, LeftByOthers}
+use Rattle.dm_part.specs.Laws.{files_place, HeldOn, ShortOn, IsOther, LeftByOthers}
 use Rattle.dm_part.proofs.Frame.{held_step, held_change, held_create, held_synced, short_step, short_change, short_create, short_synced, removed_beside, renamed_beside}
-use Rattle.dm_part.proofs.Turns.{over_one, after_call, after_whole}
+use Rattle.dm_part.proofs.Turns.{over_one}
+use Rattle.dm_disk_model.proofs.Places.{after_done, after_whole}
 use Rattle.dm_disk_model.proofs.Reaching.{weaker}
 
 -- where no file of the user's changed
@@ -24,7 +25,7 @@ module _ (says : ℕ → ℕ → Type 0) (claim : Claim) (result : Result (Unit 
   pub write_beside : (other : List ℕ) (file : File) (at : ℕ) (piece : List ℕ) → IsSoundDisk old → HasFile old.files other file → IsOther claim other → WriteStep (files_place other) at piece result old new → Held says new.files claim
   unfolding claim_on
   write_beside other file at piece sound has apart taken =
-      after_call claim_on (FileSteps other (IsWritten at piece)) (FileSteps other (IsTorn at (length piece))) result old new
+      after_done claim_on Files (FileSteps other (IsWritten at piece)) (FileSteps other (IsTorn at (length piece))) result old new
       (λ folder step. held_step old.files folder other (IsWritten at piece) file sound.files has step says claim apart.part apart.name held)
       (λ folder step. held_step old.files folder other (IsTorn at (length piece)) file sound.files has step says claim apart.part apart.name held)
       held taken
@@ -32,7 +33,7 @@ module _ (says : ℕ → ℕ → Type 0) (claim : Claim) (result : Result (Unit 
   pub sync_beside : (other : List ℕ) (file : File) → IsSoundDisk old → HasFile old.files other file → IsOther claim other → SyncStep (files_place other) result old new → Held says new.files claim
   unfolding claim_on
   sync_beside other file sound has apart taken =
-      after_whole claim_on (FileSteps other IsSynced) result old new
+      after_whole claim_on Files (FileSteps other IsSynced) result old new
       (λ folder step. held_step old.files folder other IsSynced file sound.files has step says claim apart.part apart.name held)
       held taken
 
@@ -40,7 +41,7 @@ module _ (says : ℕ → ℕ → Type 0) (claim : Claim) (result : Result (Unit 
   unfolding claim_on
   create_beside other apart taken =
       let keeps = λ (folder : Folder) (step : Creates other old.files folder). held_create old.files folder other step says claim (λ e. apart.part (sym e)) (λ e. apart.name (sym e)) held in
-      after_call claim_on (Creates other) (Creates other) result old new keeps keeps held taken
+      after_done claim_on Files (Creates other) (Creates other) result old new keeps keeps held taken
 
   pub rename_beside : (from to : List ℕ) → IsOther claim from → IsOther claim to → RenameStep (files_place from) (files_place to) result old new → Held says new.files claim
   unfolding claim_on
@@ -49,7 +50,7 @@ module _ (says : ℕ → ℕ → Type 0) (claim : Claim) (result : Result (Unit 
       let keeps = λ (folder : Folder) (step : Changes (Renamed from to) old.files folder). held_change old.files folder (Renamed from to) step says claim
       (renamed_beside names from to claim.part (λ e. not_from.part (sym e)) (λ e. not_to.part (sym e)))
       (renamed_beside names from to claim.name (λ e. not_from.name (sym e)) (λ e. not_to.name (sym e))) held in
-      after_call claim_on (Changes (Renamed from to)) (Changes (Renamed from to)) result old new keeps keeps held taken
+      after_done claim_on Files (Changes (Renamed from to)) (Changes (Renamed from to)) result old new keeps keeps held taken
 
   pub remove_beside : (other : List ℕ) → IsOther claim other → RemoveStep (files_place other) result old new → Held says new.files claim
   unfolding claim_on
@@ -58,63 +59,52 @@ module _ (says : ℕ → ℕ → Type 0) (claim : Claim) (result : Result (Unit 
       let keeps = λ (folder : Folder) (step : Changes (Removed other) old.files folder). held_change old.files folder (Removed other) step says claim
       (removed_beside names other claim.part (λ e. apart.part (sym e)))
       (removed_beside names other claim.name (λ e. apart.name (sym e))) held in
-      after_call claim_on (Changes (Removed other)) (Changes (Removed other)) result old new keeps keeps held taken
+      after_done claim_on Files (Changes (Removed other)) (Changes (Removed other)) result old new keeps keeps held taken
 
-  names_among_files : SyncNamesStep Files result old new → Held says new.files claim
+  -- a sync of names, of which folder so ever
+  pub names_beside : (area : Area) → SyncNamesStep area result old new → Held says new.files claim
   unfolding claim_on
-  names_among_files taken = after_whole claim_on SyncsNames result old new (λ folder step. held_synced old.files folder step says claim held) held taken
-
--- a sync of names, of which folder so ever
-pub names_beside : (says : ℕ → ℕ → Type 0) (claim : Claim) (area : Area) (result : Result (Unit {0}) DiskFault) (old new : DiskState) → Held says old.files claim → SyncNamesStep area result old new → Held says new.files claim
-names_beside says claim Files result old new held taken = names_among_files says claim result old new held taken
-names_beside says claim State (Ok done) old new held taken = subst (λ (folder : Folder). Held says folder claim) (sym taken.1) held
-names_beside says claim State (Err fault) old new held same = subst (λ (disk : DiskState). Held says disk.files claim) (sym same) held
+  names_beside area taken = after_whole claim_on area SyncsNames result old new (λ folder step. held_synced old.files folder step says claim held) held taken
 
 -- the same of the shortness of a part
 module _ (part : List ℕ) (total : Option ℕ) (result : Result (Unit {0}) DiskFault) (old new : DiskState) (short : IsShort part total old.files) where
   pub write_short : (other : List ℕ) (file : File) (at : ℕ) (piece : List ℕ) → IsSoundDisk old → HasFile old.files other file → other ≢ part → WriteStep (files_place other) at piece result old new → IsShort part total new.files
   write_short other file at piece sound has apart taken =
-      after_call (IsShort part total) (FileSteps other (IsWritten at piece)) (FileSteps other (IsTorn at (length piece))) result old new
+      after_done (IsShort part total) Files (FileSteps other (IsWritten at piece)) (FileSteps other (IsTorn at (length piece))) result old new
       (λ folder step. short_step old.files folder other (IsWritten at piece) file sound.files has step part total apart short)
       (λ folder step. short_step old.files folder other (IsTorn at (length piece)) file sound.files has step part total apart short)
       short taken
 
   pub sync_short : (other : List ℕ) (file : File) → IsSoundDisk old → HasFile old.files other file → other ≢ part → SyncStep (files_place other) result old new → IsShort part total new.files
   sync_short other file sound has apart taken =
-      after_whole (IsShort part total) (FileSteps other IsSynced) result old new
+      after_whole (IsShort part total) Files (FileSteps other IsSynced) result old new
       (λ folder step. short_step old.files folder other IsSynced file sound.files has step part total apart short)
       short taken
 
   pub create_short : (other : List ℕ) → other ≢ part → CreateStep (files_place other) result old new → IsShort part total new.files
   create_short other apart taken =
       let keeps = λ (folder : Folder) (step : Creates other old.files folder). short_create old.files folder other step part total (λ e. apart (sym e)) short in
-      after_call (IsShort part total) (Creates other) (Creates other) result old new keeps keeps short taken
+      after_done (IsShort part total) Files (Creates other) (Creates other) result old new keeps keeps short taken
 
   pub rename_short : (from to : List ℕ) → from ≢ part → to ≢ part → RenameStep (files_place from) (files_place to) result old new → IsShort part total new.files
   rename_short from to not_from not_to taken =
       let keeps = λ (folder : Folder) (step : Changes (Renamed from to) old.files folder). short_change old.files folder (Renamed from to) step part total
       (renamed_beside (names_of old.files) from to part (λ e. not_from (sym e)) (λ e. not_to (sym e))) short in
-      after_call (IsShort part total) (Changes (Renamed from to)) (Changes (Renamed from to)) result old new keeps keeps short taken
+      after_done (IsShort part total) Files (Changes (Renamed from to)) (Changes (Renamed from to)) result old new keeps keeps short taken
 
   pub remove_short : (other : List ℕ) → other ≢ part → RemoveStep (files_place other) result old new → IsShort part total new.files
   remove_short other apart taken =
       let keeps = λ (folder : Folder) (step : Changes (Removed other) old.files folder). short_change old.files folder (Removed other) step part total
       (removed_beside (names_of old.files) other part (λ e. apart (sym e))) short in
-      after_call (IsShort part total) (Changes (Removed other)) (Changes (Removed other)) result old new keeps keeps short taken
+      after_done (IsShort part total) Files (Changes (Removed other)) (Changes (Removed other)) result old new keeps keeps short taken
 
-  short_among_files : SyncNamesStep Files result old new → IsShort part total new.files
-  short_among_files taken = after_whole (IsShort part total) SyncsNames result old new (λ folder step. short_synced old.files folder step part total short) short taken
-
-pub names_short : (part : List ℕ) (total : Option ℕ) (area : Area) (result : Result (Unit {0}) DiskFault) (old new : DiskState) → IsShort part total old.files → SyncNamesStep area result old new → IsShort part total new.files
-names_short part total Files result old new short taken = short_among_files part total result old new short taken
-names_short part total State (Ok done) old new short taken = subst (IsShort part total) (sym taken.1) short
-names_short part total State (Err fault) old new short same = subst (λ (disk : DiskState). IsShort part total disk.files) (sym same) short
+  pub names_short : (area : Area) → SyncNamesStep area result old new → IsShort part total new.files
+  names_short area taken = after_whole (IsShort part total) area SyncsNames result old new (λ folder step. short_synced old.files folder step part total short) short taken
 
 -- at each moment
-pub claim_left : (test : ℕ → ℕ → Bool) (claim : Claim) → LeftByOthers (IsOther claim) (HoldsOn test claim)
-claim_left test claim =
-    let says = by_test test in
-    let P = HoldsOn test claim in
+pub claim_left : (says : ℕ → ℕ → Type 0) (claim : Claim) → LeftByOthers (IsOther claim) (HeldOn says claim)
+claim_left says claim =
+    let P = HeldOn says claim in
     record {
       write = λ other file at piece result old new apart sound has next held.
           over_one old new P (WriteStep (files_place other) at piece result) next held (λ disk taken. write_beside says claim result (now old) disk held other file at piece sound has apart taken);
@@ -124,7 +114,7 @@ claim_left test claim =
       rename = λ from to result old new not_from not_to next held.
           over_one old new P (RenameStep (files_place from) (files_place to) result) next held (λ disk taken. rename_beside says claim result (now old) disk held from to not_from not_to taken);
       remove = λ other result old new apart next held. over_one old new P (RemoveStep (files_place other) result) next held (λ disk taken. remove_beside says claim result (now old) disk held other apart taken);
-      names = λ area result old new next held. over_one old new P (SyncNamesStep area result) next held (λ disk taken. names_beside says claim area result (now old) disk held taken);
+      names = λ area result old new next held. over_one old new P (SyncNamesStep area result) next held (λ disk taken. names_beside says claim result (now old) disk held area taken);
       files = λ old new keeps held. weaker old new (λ disk. disk.files ≡ (now old).files) P (λ disk same. files_same (λ folder. Held says folder claim) (now old) disk same held) keeps;
     }
 
@@ -140,6 +130,6 @@ shortness_left part total =
       rename = λ from to result old new not_from not_to next short.
           over_one old new P (RenameStep (files_place from) (files_place to) result) next short (λ disk taken. rename_short part total result (now old) disk short from to not_from not_to taken);
       remove = λ other result old new apart next short. over_one old new P (RemoveStep (files_place other) result) next short (λ disk taken. remove_short part total result (now old) disk short other apart taken);
-      names = λ area result old new next short. over_one old new P (SyncNamesStep area result) next short (λ disk taken. names_short part total area result (now old) disk short taken);
+      names = λ area result old new next short. over_one old new P (SyncNamesStep area result) next short (λ disk taken. names_short part total result (now old) disk short area taken);
       files = λ old new keeps short. weaker old new (λ disk. disk.files ≡ (now old).files) P (λ disk same. files_same (IsShort part total) (now old) disk same short) keeps;
     }

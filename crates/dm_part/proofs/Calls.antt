@@ -7,21 +7,18 @@ use Rattle.dm_disk_model.specs.declared.place.Area.TheVariants.{Files}
 use Rattle.dm_disk_model.specs.declared.place.DiskFault.{DiskFault}
 use Rattle.dm_disk_model.specs.File.{IsWritten, IsTorn}
 use Rattle.dm_disk_model.specs.Folder.{Folder, Names, Change, Renamed, Removed, after_change, FileSteps, Changes, names_of, with_name}
-use Rattle.dm_disk_model.specs.Disk.{DiskState, History, Stands, now, CreateStep, WriteStep, SyncStep, RenameStep, RemoveStep, SyncNamesStep}
+use Rattle.dm_disk_model.specs.Disk.{DiskState, History, Next, Stands, now, CreateStep, WriteStep, SyncStep, RenameStep, RemoveStep, SyncNamesStep}
 use Rattle.dm_disk_model.specs.Moments.{Throughout}
+use Rattle.dm_disk_model.proofs.Places.{after_done}
 use Rattle.dm_disk_model.proofs.PendingNames.{names_more, with_name_same}
 use Rattle.dm_part.specs.Keeping.{Going, Moving, Published, Claim, Held, IsShort, IsFree, Lands, IsEmpty}
-use Rattle.dm_part.specs.Laws.{files_place, landed, settled}
+use Rattle.dm_part.specs.Laws.{files_place, HeldOn, ShortOn, landed, settled}
 use Rattle.dm_part.specs.Runs.{Twice, InTurn}
 use Rattle.dm_part.proofs.Own.{torn_by_write, held_written, held_torn, held_saved, held_renamed, held_published, held_made, held_swept, short_removed}
-use Rattle.dm_part.proofs.Turns.{over_two, after_call}
+use Rattle.dm_part.proofs.Turns.{over_one, over_two}
 use Rattle.dm_part.proofs.Beside.{names_beside}
 
 module _ (says : ℕ → ℕ → Type 0) (claim : Claim) where
-  -- the claim holds of the user's files
-  abbrev pub on : DiskState → Type 0
-  on disk = Held says disk.files claim
-
   -- a piece is landed
   pub put_held : (live : List Slice) (at : ℕ) (piece : List ℕ) (result : Result (Unit {0}) DiskFault) (old new : DiskState) → claim.stage ≡ Going → Lands says claim at piece live
       → Held says old.files claim → WriteStep (files_place claim.part) at piece result old new → Held says new.files (landed result live claim)
@@ -47,6 +44,13 @@ module _ (says : ℕ → ℕ → Type 0) (claim : Claim) where
   put_keeps at piece (Err fault) old new going free held (inr same) = subst (λ (disk : DiskState). Held says disk.files claim) (sym same) held
 
   -- the part is synced
+  -- so at each moment of a put
+  pub put_moments : (at : ℕ) (piece : List ℕ) (result : Result (Unit {0}) DiskFault) (old new : History) → claim.stage ≡ Going → IsFree claim at (length piece)
+      → Next old new (WriteStep (files_place claim.part) at piece result) → HeldOn says claim (now old) → Throughout old new (HeldOn says claim)
+  put_moments at piece result old new going free next held =
+      over_one old new (HeldOn says claim) (WriteStep (files_place claim.part) at piece result) next held (λ disk taken. put_keeps at piece result (now old) disk going free held taken)
+
+  -- what is live may be saved after a sync
   pub settle_held : (saved : List Slice) (result : Result (Unit {0}) DiskFault) (old new : DiskState) → claim.stage ≡ Going → Holds claim.live saved
       → Held says old.files claim → SyncStep (files_place claim.part) result old new → Held says new.files (settled result saved claim)
   settle_held saved (Ok done) old new going holds held taken = held_saved says old.files new.files claim going held saved holds taken.0
@@ -57,20 +61,26 @@ module _ (says : ℕ → ℕ → Type 0) (claim : Claim) where
   settle_keeps (Ok done) old new going held taken = settle_held claim.saved (Ok tt) old new going held.filed.holds held taken
   settle_keeps (Err fault) old new going held taken = settle_held claim.saved (Err fault) old new going held.filed.holds held taken
 
+  -- and at each moment of it
+  pub settle_moments : (result : Result (Unit {0}) DiskFault) (old new : History) → claim.stage ≡ Going → Next old new (SyncStep (files_place claim.part) result) → HeldOn says claim (now old)
+      → Throughout old new (HeldOn says claim)
+  settle_moments result old new going next held =
+      over_one old new (HeldOn says claim) (SyncStep (files_place claim.part) result) next held (λ disk taken. settle_keeps result (now old) disk going held taken)
+
   -- the file that is moved is given its name
   pub rename_held : (result : Result (Unit {0}) DiskFault) (old new : DiskState) → claim.stage ≡ Moving → Stands old (files_place claim.part)
       → Held says old.files claim → RenameStep (files_place claim.part) (files_place claim.name) result old new → Held says new.files claim
   rename_held result old new moving stands held taken =
       let keeps = λ (folder : Folder) (step : Changes (Renamed claim.part claim.name) old.files folder). held_renamed says old.files folder claim moving held stands step in
-      after_call (λ folder. Held says folder claim) (Changes (Renamed claim.part claim.name)) (Changes (Renamed claim.part claim.name)) result old new keeps keeps held taken
+      after_done (λ folder. Held says folder claim) Files (Changes (Renamed claim.part claim.name)) (Changes (Renamed claim.part claim.name)) result old new keeps keeps held taken
 
   -- a publication, at each moment
   pub publish_moments : (result : Result (Unit {0}) DiskFault) (old new : History) → claim.stage ≡ Moving → Stands (now old) (files_place claim.part)
-      → InTurn (RenameStep (files_place claim.part) (files_place claim.name)) (SyncNamesStep Files) result old new → Held says (now old).files claim → Throughout old new on
+      → InTurn (RenameStep (files_place claim.part) (files_place claim.name)) (SyncNamesStep Files) result old new → Held says (now old).files claim → Throughout old new (HeldOn says claim)
   publish_moments result old new moving stands run held =
-      over_two old new on (RenameStep (files_place claim.part) (files_place claim.name)) (SyncNamesStep Files) result run held
+      over_two old new (HeldOn says claim) (RenameStep (files_place claim.part) (files_place claim.name)) (SyncNamesStep Files) result run held
       (λ answer disk taken. rename_held answer (now old) disk moving stands held taken)
-      (λ answer middle disk there renamed taken. names_beside says claim Files answer middle disk there taken)
+      (λ answer middle disk there renamed taken. names_beside says claim answer middle disk there Files taken)
 
   -- once it was renamed it stands under its name
   renamed_stands : (old new : Folder) → IsSome (names_of old claim.part) → Changes (Renamed claim.part claim.name) old new → IsSome (names_of new claim.name)
@@ -104,10 +114,21 @@ module _ (says : ℕ → ℕ → Type 0) (claim : Claim) where
       → Held says old.files claim → RemoveStep (files_place claim.part) result old new → Held says new.files claim
   sweep_held result old new published apart held taken =
       let keeps = λ (folder : Folder) (step : Changes (Removed claim.part) old.files folder). held_swept says old.files folder claim published apart step held in
-      after_call (λ folder. Held says folder claim) (Changes (Removed claim.part)) (Changes (Removed claim.part)) result old new keeps keeps held taken
+      after_done (λ folder. Held says folder claim) Files (Changes (Removed claim.part)) (Changes (Removed claim.part)) result old new keeps keeps held taken
+
+  -- and at each moment
+  pub sweep_moments : (result : Result (Unit {0}) DiskFault) (old new : History) → claim.stage ≡ Published → claim.name ≢ claim.part → Next old new (RemoveStep (files_place claim.part) result)
+      → HeldOn says claim (now old) → Throughout old new (HeldOn says claim)
+  sweep_moments result old new published apart next held =
+      over_one old new (HeldOn says claim) (RemoveStep (files_place claim.part) result) next held (λ disk taken. sweep_held result (now old) disk published apart held taken)
 
 -- a part that is removed stays short
 pub discard_short : (part : List ℕ) (total : Option ℕ) (result : Result (Unit {0}) DiskFault) (old new : DiskState) → IsShort part total old.files → RemoveStep (files_place part) result old new → IsShort part total new.files
 discard_short part total result old new short taken =
     let keeps = λ (folder : Folder) (step : Changes (Removed part) old.files folder). short_removed old.files folder part total step short in
-    after_call (IsShort part total) (Changes (Removed part)) (Changes (Removed part)) result old new keeps keeps short taken
+    after_done (IsShort part total) Files (Changes (Removed part)) (Changes (Removed part)) result old new keeps keeps short taken
+
+pub discard_moments : (part : List ℕ) (total : Option ℕ) (result : Result (Unit {0}) DiskFault) (old new : History) → Next old new (RemoveStep (files_place part) result) → ShortOn part total (now old)
+    → Throughout old new (ShortOn part total)
+discard_moments part total result old new next short =
+    over_one old new (ShortOn part total) (RemoveStep (files_place part) result) next short (λ disk taken. discard_short part total result (now old) disk short taken)

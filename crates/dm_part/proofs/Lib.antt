@@ -2,6 +2,7 @@ pub mod Beginning
 pub mod Beside
 pub mod Calls
 pub mod Frame
+pub mod Lengths
 pub mod Names
 pub mod Own
 pub mod Pieces

@@ -9,7 +9,7 @@ use Rattle.std.proofs.lemmas.Str.{IsUtf8-from_ascii}
 use Rattle.std.specs.Str.{IsUtf8}
 use Rattle.std.proofs.lemmas.Bool.{cases_lt}
 use Rattle.std.proofs.lemmas.List.{get_or_append_left, take_at, get_or_at}
-use Rattle.dm_words.specs.Part.{part_name}
+use Rattle.dm_types.specs.Name.{part_name}
 use Rattle.dm_part.specs.Naming.{OnePart}
 
 -- no digit of a number is a hyphen

@@ -7,13 +7,15 @@ use Rattle.sha2.specs.Sha256.{sha256}
 use Rattle.dm_types.specs.declared.slices.Slice.{Slice}
 use Rattle.dm_slice.specs.Words.{Holds}
 use Rattle.dm_disk_model.specs.File.{File, IsUntouched, IsWritten, IsTorn, IsSynced, SameOutside, empty_file}
-use Rattle.dm_disk_model.specs.Folder.{Names, Folder, Change, Created, Renamed, Removed, after_change, FileSteps, Creates, Changes, SyncsNames, EachPrefix, names_of, contents_of, with_name}
+use Rattle.dm_disk_model.specs.Folder.{Names, Folder, Change, Created, Renamed, Removed, after_change, after_changes, FileSteps, Creates, Changes, SyncsNames, EachPrefix, names_of, contents_of, with_name}
 use Rattle.dm_disk_model.specs.Firm.{HasFile}
+use Rattle.dm_disk_model.specs.Beside.{IsFirm}
 use Rattle.dm_disk_model.proofs.PendingNames.{each_now, each_more, each_synced, names_more, with_name_same, with_name_other}
 use Rattle.dm_disk_model.proofs.FirmNames.{each_same}
+use Rattle.dm_disk_model.proofs.Firmness.{firm_settled}
 use Rattle.dm_disk_model.proofs.FileBytes.{length-overwrite, overwrite_within, overwrite_outside}
 use Rattle.dm_part.specs.Keeping.{Stage, Going, Moving, Published, Claim, LiesAt, IsContent, IsWhole, IsAtMost, Filed, IsShort, Held, IsFree, Lands, IsEmpty}
-use Rattle.dm_part.proofs.Frame.{short_changed, short_synced, removed_beside}
+use Rattle.dm_part.proofs.Frame.{short_changed, held_synced, removed_beside}
 
 -- a file of an item that is going, a write of which was done or begun at a free place
 touched_filed : (says : ℕ → ℕ → Type 0) (claim : Claim) (old new : File) (at count : ℕ) → claim.stage ≡ Going → IsFree claim at count → SameOutside at (at + count) old.bytes new.bytes
@@ -247,25 +249,34 @@ module _ (says : ℕ → ℕ → Type 0) (old new : Folder) (claim : Claim) (mov
         short = short_changed old new change taken.synced taken.changes claim.part claim.total (λ number is. absurd (none-some number (sym gone ∙ is))) (λ count number is. files number) held.short;
       }
 
-  -- the names are synced once it stands under its name
-  pub held_published : IsSome (names_of old claim.name) → SyncsNames old new → Held says new (record claim { stage = Published })
-  held_published stands taken =
-      let here = name_stands claim.part claim.name held.number (names_of old) (each_now old (LiesAt Moving claim.part claim.name held.number) lies_moving) stands in
-      let files = ap (λ (f : ℕ → File). f held.number) taken.files in
-      let filed : Filed says (record claim { stage = Published }) (old.file held.number) = record {
+-- Once it stands under its name, and that is firm, it is published.
+pub published_firm : (says : ℕ → ℕ → Type 0) (folder : Folder) (claim : Claim) → claim.stage ≡ Moving → IsSome (names_of folder claim.name) → IsFirm claim.name folder → Held says folder claim
+    → Held says folder (record claim { stage = Published })
+published_firm says folder claim moving stands firm held =
+    let lies : EachPrefix folder (LiesAt Moving claim.part claim.name held.number) = subst (λ (stage : Stage). EachPrefix folder (LiesAt stage claim.part claim.name held.number)) moving held.lies in
+    let here = name_stands claim.part claim.name held.number (names_of folder) (each_now folder (LiesAt Moving claim.part claim.name held.number) lies) stands in
+    let read : names_of folder claim.name ≡ firm.found = each_now folder (λ names. names claim.name ≡ firm.found) firm.named in
+    record {
+      number = held.number;
+      lies = λ count. firm.named count ∙ sym read ∙ here;
+      filed = record {
         clean = held.filed.clean;
         said = held.filed.said;
         holds = held.filed.holds;
         short = held.filed.short;
         within = held.filed.within;
-        whole = subst (λ (stage : Stage). IsWhole stage claim.total claim.digest claim.saved (old.file held.number).bytes) moving held.filed.whole;
-      } in
-      record {
-        number = held.number;
-        lies = each_synced new (LiesAt Published claim.part claim.name held.number) taken.changes (ap (λ (names : Names). names claim.name) taken.synced ∙ here);
-        filed = subst (Filed says (record claim { stage = Published })) (sym files) filed;
-        short = short_synced old new taken claim.part claim.total held.short;
-      }
+        whole = subst (λ (stage : Stage). IsWhole stage claim.total claim.digest claim.saved (folder.file held.number).bytes) moving held.filed.whole;
+      };
+      short = held.short;
+    }
+
+-- the names are synced once the file stands under its name
+pub held_published : (says : ℕ → ℕ → Type 0) (old new : Folder) (claim : Claim) → claim.stage ≡ Moving → Held says old claim → IsSome (names_of old claim.name) → SyncsNames old new
+    → Held says new (record claim { stage = Published })
+held_published says old new claim moving held stands taken =
+    published_firm says new claim moving
+    (subst (λ (names : Names). IsSome (names claim.name)) (sym (ap (after_changes new.synced) taken.changes ∙ taken.synced)) stands)
+    (firm_settled new claim.name taken.changes) (held_synced old new taken says claim held)
 
 -- the part is removed
 pub short_removed : (old new : Folder) (part : List ℕ) (total : Option ℕ) → Changes (Removed part) old new → IsShort part total old → IsShort part total new

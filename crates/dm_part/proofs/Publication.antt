@@ -36,11 +36,11 @@ module _ (part target : Place) (one_area : target.area ≡ part.area) (file : Li
   nothing_or : (disk : DiskState) → LeavesNothing target disk → LeavesNothingOr target file disk
   nothing_or disk nothing image leaves = inl (nothing image leaves)
 
-  at_start : Throughout old old (LeavesNothingOr target file)
-  at_start = at_start old (LeavesNothingOr target file) (nothing_or (now old) (absent_leaves target (now old) absent))
+  nothing_first : Throughout old old (LeavesNothingOr target file)
+  nothing_first = at_start old (LeavesNothingOr target file) (nothing_or (now old) (absent_leaves target (now old) absent))
 
   pub whole_refused : (fault : DiskFault) (new : History) → Next old new (RenameStep part target (Err fault)) → Throughout old new (LeavesNothingOr target file)
-  whole_refused fault new next = over_next old old new (LeavesNothingOr target file) (RenameStep part target (Err fault)) at_start next (by_step (now new) next.stepped) where
+  whole_refused fault new next = over_next old old new (LeavesNothingOr target file) (RenameStep part target (Err fault)) nothing_first next (by_step (now new) next.stepped) where
     by_step : (disk : DiskState) → RenameStep part target (Err fault) (now old) disk → LeavesNothingOr target file disk
     by_step disk (inl taken) = given_leaves target file disk (given_rename part target file (now old) disk one_area settled absent taken)
     by_step disk (inr same) = subst (LeavesNothingOr target file) (sym same) (nothing_or (now old) (absent_leaves target (now old) absent))
@@ -49,7 +49,7 @@ module _ (part target : Place) (one_area : target.area ≡ part.area) (file : Li
   whole_done area result mid new renamed synced =
       let given = given_rename part target file (now old) (now mid) one_area settled absent renamed.stepped in
       over_next old mid new (LeavesNothingOr target file) (SyncNamesStep area result)
-      (over_next old old mid (LeavesNothingOr target file) (RenameStep part target (Ok tt)) at_start renamed (given_leaves target file (now mid) given))
+      (over_next old old mid (LeavesNothingOr target file) (RenameStep part target (Ok tt)) nothing_first renamed (given_leaves target file (now mid) given))
       synced (given_leaves target file (now new) (given_names_synced target file area result (now mid) (now new) synced.stepped given))
 
 -- what reads after a call, by its answer
@@ -60,6 +60,11 @@ reads_removed place (Err fault) old new step = tt
 pub reads_created : (place : Place) (result : Result (Unit {0}) DiskFault) (old new : DiskState) → CreateStep place result old new → OnOk result (bytes_at new place ≡ Some [])
 reads_created place (Ok done) old new step = create_reads place old new step
 reads_created place (Err fault) old new step = tt
+
+-- a part that was created, with the names synced
+pub reads_made : (place : Place) (result : Result (Unit {0}) DiskFault) (old mid new : DiskState) → CreateStep place (Ok tt) old mid → SyncNamesStep place.area result mid new → OnOk result (bytes_at new place ≡ Some [])
+reads_made place (Ok done) old mid new made synced = names_reads place.area (Ok tt) mid new synced place ∙ create_reads place old mid made
+reads_made place (Err fault) old mid new made synced = tt
 
 -- a file that a call wrote or synced stands
 step_stands : (place : Place) (step : File → File → Type 0) (old new : DiskState) → InArea place.area (FileSteps place.name step) old new → Stands new place

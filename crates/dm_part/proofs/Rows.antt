@@ -1,14 +1,14 @@
 -- The worked rows.
-use Rattle.std.proofs.Common.{◌≡◌, inl, inr, ℕ, zero, suc, ◌<◌, ◌≤◌, List, length, get_or, codes, Some, None, refl, sym, ap, subst, arith}
+use Rattle.std.proofs.Common.{◌≡◌, ◌⊎◌, inl, inr, ℕ, zero, suc, ◌<◌, ◌≤◌, List, length, get_or, codes, Some, None, refl, sym, ap, subst, arith}
 use Rattle.std.proofs.lemmas.Bool.{false≢true}
 use Rattle.std.proofs.lemmas.Option.{same_Some, none-some}
-use Rattle.dm_disk_model.specs.Folder.{Renamed, EachPrefix}
+use Rattle.dm_disk_model.specs.Folder.{Folder, Renamed, EachPrefix}
 use Rattle.dm_disk_model.specs.File.{settled_file}
 use Rattle.dm_disk_model.proofs.PendingNames.{each_more, each_synced}
 use Rattle.dm_slice.specs.Words.{HasByte}
-use Rattle.dm_part.specs.Keeping.{Stage, Going, Moving, LiesAt, FoundAt, IsContent, IsWhole, IsSaid, IsAtMost, Filed, IsShort}
+use Rattle.dm_part.specs.Keeping.{Stage, Going, Moving, Published, LiesAt, FoundAt, IsContent, IsWhole, IsSaid, IsAtMost, Filed, IsShort}
 use Rattle.dm_part.specs.Laws.{by_test}
-use Rattle.dm_part.specs.Rows.{says_abc, from_start, claim_abc, part_with, moved_with, found_under, RowsHold}
+use Rattle.dm_part.specs.Rows.{says_abc, from_start, claim_abc, folder_with, part_with, moved_with, found_under, RowsHold}
 
 -- each of so many places is one of them
 abc_said : (count : ℕ) → count ≤ 3 → IsSaid (by_test says_abc) (from_start count) (codes "abc")
@@ -63,6 +63,10 @@ moved_short =
 same_bytes : (found bytes : List ℕ) → Some found ≡ Some bytes → bytes ≡ found
 same_bytes found bytes is = sym (same_Some found bytes is)
 
+-- the file stands under its name
+abbrev published_folder : Folder
+published_folder = folder_with (codes "n") (settled_file (codes "abc"))
+
 pub rows_hold : RowsHold
 rows_hold = record {
   going = record { number = 0; lies = lies_going; filed = row_filed Going 2 3 (omega arith) (omega arith) tt; short = part_short (codes "abc") refl };
@@ -81,13 +85,28 @@ rows_hold = record {
       let same = same_bytes (codes "a") sound.bytes sound.found.0 in
       let long = (sound.said 1 (inl (omega arith, omega arith))).0 in
       omega (arith, ap length same);
+  touched = λ held. apart (held.filed.clean 1 (inl (omega arith, omega arith))).untouched.0;
+  unsynced = λ held. let clean = held.filed.clean 1 (inl (omega arith, omega arith)) in omega (arith, clean.below);
   early = λ sound. none-some sound.bytes sound.found.0;
+  both = λ held. none-some 1 (sym (held.lies 0).1);
   moving = record { number = 0; lies = lies_moving; filed = row_filed Moving 3 3 (omega arith) (omega arith) all_of_abc; short = moved_short };
   moved = record { bytes = codes "abc"; found = inr (refl, refl); said = abc_said 3 (omega arith); short = omega arith; whole = all_of_abc };
   half_moved = λ sound. half sound.bytes sound.found sound.whole.ends;
+  other_digest = λ digest differs held. differs held.filed.whole.sum;
+  published = record {
+    number = 0;
+    lies = each_synced published_folder (LiesAt Published (codes "p") (codes "n") 0) refl refl;
+    filed = row_filed Published 3 3 (omega arith) (omega arith) all_of_abc;
+    short = each_synced published_folder (λ names. (number : ℕ) → names (codes "p") ≡ Some number → 3 ≤ 3) refl (λ number is. omega arith);
+  };
+  unpublished = λ held. none-some held.number (held.lies 0);
   long = λ short. let four = short 0 0 refl in omega arith;
 }
   where
+    apart : (1 < 1) ⊎ (2 ≤ 1) → ⊥
+    apart (inl low) = omega (arith, low)
+    apart (inr high) = omega (arith, high)
+
     two : IsSaid (by_test says_abc) (from_start 2) (codes "abX")
     two place (inl has) = (omega arith, by place (omega arith))
       where

@@ -4,8 +4,8 @@ use Rattle.std.specs.Prelude.{◌≡◌, ◌⊎◌, ℕ, ◌+◌, ◌<◌, ◌�
 use Rattle.sha2.specs.Sha256.{sha256}
 use Rattle.dm_types.specs.declared.slices.Slice.{Slice}
 use Rattle.dm_slice.specs.Words.{HasByte, Holds, IsFull}
-use Rattle.dm_disk_model.specs.File.{File, IsClean, settled_file}
-use Rattle.dm_disk_model.specs.Folder.{Names, Folder, Contents, EachPrefix, contents_of}
+use Rattle.dm_disk_model.specs.File.{File, IsClean}
+use Rattle.dm_disk_model.specs.Folder.{Names, Folder, Contents, EachPrefix, AreSettled, contents_of}
 
 -- how far an item is: its content comes into the part; all of it is there, and the part is given its name; it stands under its name
 pub data Stage : Type 0 where
@@ -108,8 +108,8 @@ pub record Lands (says : ℕ → ℕ → Type 0) (claim : Claim) (at : ℕ) (pie
 abbrev pub IsEmpty : List Slice → Type 0
 IsEmpty cover = (place : ℕ) → HasByte cover place → ⊥
 
--- The folder begins with what a crash left: each file is clean as it reads, and no change of names is pending.
+-- The folder begins with what a crash left: each file that has a name is clean as it reads, and no change of names is pending.
 pub record Begins (folder : Folder) (contents : Contents) : Type 0 where
   pub reads : (name : List ℕ) → contents_of folder name ≡ contents name
-  pub settled : (number : ℕ) → folder.file number ≡ settled_file (folder.file number).bytes
+  pub settled : AreSettled folder
   pub none_pending : folder.changes ≡ []

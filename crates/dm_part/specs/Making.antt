@@ -1,7 +1,7 @@
 -- How a part is made.
 use Rattle.std.specs.Prelude.{◌≡◌, ℕ, Option, Some, None, Result, Ok, Err}
 use Rattle.dm_types.specs.declared.kinds.DiskKind.{DiskKind}
-use Rattle.dm_words.specs.Part.{part_name}
+use Rattle.dm_types.specs.Name.{part_name}
 use Rattle.dm_disk_model.specs.declared.place.Area.TheVariants.{Files}
 use Rattle.dm_disk_model.specs.declared.place.Place.{Place}
 use Rattle.dm_disk_model.specs.Disk.{History, CreateStep, SyncNamesStep}

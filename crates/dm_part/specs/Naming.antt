@@ -1,6 +1,6 @@
 -- The names of parts, read.
 use Rattle.std.specs.Prelude.{◌≡◌, ℕ, ◌^◌, ◌<◌}
-use Rattle.dm_words.specs.Part.{part_name}
+use Rattle.dm_types.specs.Name.{part_name}
 
 -- a name is that of one item's part at most, in one of its epochs
 abbrev pub OnePart : Type 0

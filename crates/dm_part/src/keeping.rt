@@ -1,5 +1,5 @@
 ghost use Rattle.dm_part.specs.Rows.{RowsHold};
-ghost use Rattle.dm_part.specs.Laws.{DigestTells, HeldIsSound, HeldStands, PartReads, ShortIsLeft, ClaimIsLeft, ShortnessIsLeft, PutKeeps, SettleKeeps, MayMove, MayLose, MayTell, SoundHolds, PublishKeeps, SyncPublishes, DiscardKeeps, SweepKeeps, MakeHolds};
+ghost use Rattle.dm_part.specs.Laws.{DigestTells, HeldIsSound, HeldStands, PartReads, MovingReads, PublishedReads, PutLength, FirmPublishes, ShortIsLeft, ClaimIsLeft, ShortnessIsLeft, PutKeeps, SettleKeeps, MayMove, MayLose, MayTell, SoundHolds, PublishKeeps, SyncPublishes, DiscardKeeps, SweepKeeps, MakeHolds};
 
 /// What is kept of a file is sound in each image that a crash may leave, and says what stands and reads.
 pub fn held_is_sound()
@@ -7,6 +7,8 @@ pub fn held_is_sound()
     ensures short { ShortIsLeft }
     ensures stands { HeldStands }
     ensures reads { PartReads }
+    ensures moving { MovingReads }
+    ensures published { PublishedReads }
 {}
 
 /// A disk that begins with what a crash left holds what is sound in it.
@@ -24,6 +26,7 @@ pub fn others_leave()
 pub fn own_calls_keep()
     ensures made { MakeHolds }
     ensures landed { PutKeeps }
+    ensures lengths { PutLength }
     ensures settled { SettleKeeps }
     ensures may_move { MayMove }
     ensures digest_tells { DigestTells }
@@ -31,6 +34,7 @@ pub fn own_calls_keep()
     ensures may_tell { MayTell }
     ensures published { PublishKeeps }
     ensures names_publish { SyncPublishes }
+    ensures firm_publishes { FirmPublishes }
     ensures discarded { DiscardKeeps }
     ensures swept { SweepKeeps }
 {}

@@ -1,14 +1,12 @@
-ghost use Rattle.std.specs.Prelude.{◌≡◌, IfOk, Some, []};
+ghost use Rattle.std.specs.Prelude.{◌≡◌, IfOk, OnOk, Some, []};
 ghost use Rattle.dm_types.specs.Faults.{HasCause};
-ghost use Rattle.dm_words.specs.Part as part;
-ghost use Rattle.dm_disk_model.specs.Disk.{now, StandsNot, bytes_at};
-ghost use Rattle.dm_disk_model.specs.declared.place.Area.TheVariants.{Files};
-ghost use Rattle.dm_disk_model.specs.Moments.{KeepsOthers};
+ghost use Rattle.dm_disk_model.specs.Faults.{disk_kind};
+ghost use Rattle.dm_disk_model.specs.Disk.{now, StandsNot, bytes_at, CreateStep, SyncNamesStep};
 ghost use Rattle.dm_part.specs.Making.{make_kind, part_place, Makes};
+ghost use Rattle.dm_part.specs.Runs.{InTurn};
 
-use dm_disk_model::{Area, Disk, Place};
-use dm_types::{DiskKind, Epoch, ItemId, NoMemory};
-use dm_words::part_name;
+use dm_disk_model::{Area, Disk, DiskFault, Place};
+use dm_types::{DiskKind, Epoch, ItemId, NoMemory, part_name};
 use std::alloc::Global;
 
 /// Why a part wasn't made.
@@ -17,6 +15,31 @@ pub enum MakeFault {
     /// A call on the disk failed.
     Disk(DiskKind),
     NoMemory,
+}
+
+/// The place of an item's part in one of its epochs.
+pub fn place_of(alloc: Global, id: ItemId, epoch: Epoch) -> Result<Place, NoMemory>
+    ensures { IfOk result (λ place. place ≡ part_place id.0 epoch.0) }
+{
+    let name = part_name(alloc, id, epoch)?;
+    Ok(Place {
+        area: Area::Files,
+        name,
+    })
+}
+
+/// Creates a part, and makes the names durable. The part is empty. It takes no memory.
+pub fn create<D: Disk>(disk: &mut D, part: &Place) -> Result<(), DiskFault>
+    requires { D.tells → StandsNot (now (D.history disk.old)) part.now }
+    ensures done { D.tells → InTurn (CreateStep part.now) (SyncNamesStep part.now.area) result (D.history disk.old) (D.history disk.new) }
+    ensures made { D.tells → OnOk result (bytes_at (now (D.history disk.new)) part.now ≡ Some []) }
+    ensures cause { HasCause disk_kind (D.faults disk.old) (D.faults disk.new) result }
+    ensures far { D.far disk.new ≡ D.far disk.old }
+{
+    match disk.create(part) {
+        Ok(()) => disk.sync_names(part.area),
+        Err(fault) => Err(fault),
+    }
 }
 
 /// Makes the part of an item in one of its epochs, and makes the names durable. The part is empty.
@@ -30,22 +53,14 @@ pub fn make_part<D: Disk>(
     ensures is { IfOk result (λ place. place ≡ part_place id.0 epoch.0) }
     ensures done { D.tells → Makes (part_place id.0 epoch.0) result (D.history disk.old) (D.history disk.new) }
     ensures made { D.tells → IfOk result (λ place. bytes_at (now (D.history disk.new)) place ≡ Some []) }
-    ensures keeps { D.tells → KeepsOthers (part_place id.0 epoch.0) (D.history disk.old) (D.history disk.new) }
     ensures cause { HasCause make_kind (D.faults disk.old) (D.faults disk.new) result }
     ensures far { D.far disk.new ≡ D.far disk.old }
 {
-    let place = match part_name(alloc, id, epoch) {
-        Ok(name) => Place {
-            area: Area::Files,
-            name,
-        },
+    let place = match place_of(alloc, id, epoch) {
+        Ok(place) => place,
         Err(NoMemory) => return Err(MakeFault::NoMemory),
     };
-    match disk.create(&place) {
-        Ok(()) => {}
-        Err(fault) => return Err(MakeFault::Disk(fault.0)),
-    }
-    match disk.sync_names(Area::Files) {
+    match create(disk, &place) {
         Ok(()) => Ok(place),
         Err(fault) => Err(MakeFault::Disk(fault.0)),
     }

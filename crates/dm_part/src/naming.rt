@@ -1,6 +1,7 @@
 ghost use Rattle.std.specs.Prelude.{◌≡◌, ◌≢◌, ℕ, ◌^◌, ◌<◌, List, ◌∷◌, ◌++◌, length, slice_index, codes, IfSome, IfNone, MatchOption, true, false};
 ghost use Rattle.std.specs.Fmt.{decimal};
-ghost use Rattle.dm_words.specs.Part as part;
+ghost use Rattle.dm_types.specs.Name as part;
+ghost use Rattle.dm_types.specs.Name.{IsPart};
 ghost use Rattle.dm_part.specs.Naming.{OnePart};
 
 use dm_types::{Epoch, ItemId};
@@ -92,7 +93,7 @@ fn numbers_of(name: &[u8]) -> Option<&[u8]>
 /// numbers without a leading zero and below 2^32. `None` where it is no part's.
 pub fn read_part_name(name: &[u8]) -> Option<(ItemId, Epoch)>
     ensures some { IfSome result (λ found. name.now ≡ part.part_name found.0.0 found.1.0) }
-    ensures none { IfNone result ((id epoch : ℕ) → id < 2 ^ 32 → epoch < 2 ^ 32 → name.now ≢ part.part_name id epoch) }
+    ensures none { IfNone result (IsPart name.now → ⊥) }
 {
     match numbers_of(name) {
         Some(numbers) => match read_numbers(numbers) {

@@ -1,11 +1,7 @@
 // How a part is put on a disk in memory, and what is read of it. Each helper asks first whether it stands.
-ghost use Rattle.std.specs.Prelude.{◌≡◌, IfOk};
-ghost use Rattle.dm_part.specs.Making.{part_place};
-
-use dm_disk::{Area, Disk, DiskFault, FailingCall, MemoryDisk, Pick, Place};
-use dm_part::{MakeFault, PartFault, digest, discard, make_part, put, settle};
+use dm_disk::{Disk, DiskFault, FailingCall, MemoryDisk, Pick, Place};
+use dm_part::{MakeFault, PartFault, digest, discard, make_part, place_of, put, settle};
 use dm_types::{DiskKind, Epoch, ItemId, Listed, NoMemory};
-use dm_words::part_name;
 use std::alloc::Global;
 use std::test::Fail;
 
@@ -19,16 +15,6 @@ pub(crate) fn disk(alloc: Global, failing: Option<u64>) -> Result<MemoryDisk, No
         })?;
     }
     MemoryDisk::new(alloc, calls, None)
-}
-
-fn place_of(alloc: Global, id: ItemId, epoch: Epoch) -> Result<Place, NoMemory>
-    ensures { IfOk result (λ place. place ≡ part_place id.0 epoch.0) }
-{
-    let name = part_name(alloc, id, epoch)?;
-    Ok(Place {
-        area: Area::Files,
-        name,
-    })
 }
 
 /// Makes a part by three calls on the disk.

@@ -1,6 +1,6 @@
 use Rattle.dm_disk_model.specs.Disk.{now}
 use Rattle.dm_part.proofs.Publication.{moves_refused, moves_done, whole_refused, whole_done, durable_done}
-use Rattle.dm_part.proofs.publish.Goals as goal
+use Rattle.dm_part.proofs.part.publish.Goals as goal
 
 pub returns-in-Ok-clause-moves : goal.returns-in-Ok-clause-moves
 returns-in-Ok-clause-moves g c tells differ =

@@ -1,7 +1,7 @@
 use Rattle.dm_disk_model.specs.Disk.{now}
 use Rattle.dm_disk_model.proofs.Keeping.{keeps_same, keeps_then, keeps_remove}
 use Rattle.dm_part.proofs.Publication.{reads_removed}
-use Rattle.dm_part.proofs.clear.Goals as goal
+use Rattle.dm_part.proofs.part.clear.Goals as goal
 
 pub returns-in-Ok-Some-clause-cleared : goal.returns-in-Ok-Some-clause-cleared
 returns-in-Ok-Some-clause-cleared g c tells = reads_removed c.args.part.now c.remove.result (now (g.D.Disk.history c.length.new.self)) (now (g.D.Disk.history c.remove.new.self)) (c.remove.ensures.done tells).stepped
