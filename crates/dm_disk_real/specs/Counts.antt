@@ -1,12 +1,14 @@
 -- What a disk over real folders tells: how often its calls failed, and nothing of content.
-use Rattle.std.specs.Prelude.{◌≡◌, ℕ, ◌+◌, ◌-◌, ◌^◌, min, [], Result, Ok, Err}
+use Rattle.std.specs.Prelude.{◌≡◌, [], Result, Ok, Err}
 use Rattle.std.specs.declared.io.Error.{Error}
 use Rattle.std.specs.IoError.{error_kind}
 use Rattle.std.specs.declared.io.ErrorKind.{ErrorKind}
 use Rattle.std.specs.declared.io.ErrorKind.TheVariants as system
 use Rattle.dm_types.specs.declared.kinds.DiskKind.{DiskKind}
 use Rattle.dm_types.specs.declared.kinds.DiskKind.TheVariants as kinds
+use Rattle.dm_disk_model.specs.declared.counts.KindCounts.{KindCounts}
 use Rattle.dm_disk_model.specs.declared.place.DiskFault.{DiskFault}
+use Rattle.dm_disk_model.specs.Counts.{counted, no_faults}
 use Rattle.dm_disk_model.specs.Disk.{DiskState, History}
 use Rattle.dm_disk_model.specs.File.{empty_file}
 use Rattle.dm_disk_model.specs.Folder.{Folder, no_names}
@@ -19,33 +21,15 @@ kind_of system.PermissionDenied = kinds.Denied
 kind_of system.InvalidFilename = kinds.NameTooLong
 kind_of _ = kinds.Failed
 
--- one more, up to the last value
-abbrev pub one_more : ℕ → ℕ
-one_more count = min (count + 1) (2 ^ 64 - 1)
-
--- how often a call failed in this way
-abbrev pub count_of : Counts → DiskKind → ℕ
-count_of counts kinds.Failed = counts.failed
-count_of counts kinds.Denied = counts.denied
-count_of counts kinds.NoSpace = counts.no_space
-count_of counts kinds.NameTooLong = counts.name_too_long
-
--- the counts after one more failure of this kind
-abbrev pub counted : Counts → DiskKind → Counts
-counted counts kinds.Failed = record counts { failed = one_more counts.failed }
-counted counts kinds.Denied = record counts { denied = one_more counts.denied }
-counted counts kinds.NoSpace = record counts { no_space = one_more counts.no_space }
-counted counts kinds.NameTooLong = record counts { name_too_long = one_more counts.name_too_long }
-
 -- The system's answer is handed on, and an error is counted under its kind.
-abbrev pub Answers : {T : Type 0} → Result T Error → Counts → Counts → Result T DiskFault → Type 0
+abbrev pub Answers : {T : Type 0} → Result T Error → KindCounts → KindCounts → Result T DiskFault → Type 0
 Answers (Ok value) before now result = (result ≡ Ok value) × (now ≡ before)
 Answers (Err error) before now result =
-    (result ≡ Err (record { 0 = kind_of (error_kind error) })) × (now ≡ counted before (kind_of (error_kind error)))
+    (result ≡ Err (record { 0 = kind_of (error_kind error) })) × (now ≡ counted (kind_of (error_kind error)) before)
 
 -- nothing has failed
-abbrev pub no_faults : Counts
-no_faults = record { failed = 0; denied = 0; no_space = 0; name_too_long = 0; far = 0 }
+abbrev pub none_failed : Counts
+none_failed = record { kinds = no_faults; far = 0 }
 
 abbrev pub blank_folder : Folder
 blank_folder = record { file = λ _. empty_file; synced = no_names; changes = [] }

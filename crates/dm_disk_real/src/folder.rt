@@ -1,15 +1,18 @@
-ghost use Rattle.std.specs.Prelude.{◌≡◌, ◌↔◌, ◌++◌, IsTrue, IsOk, IfOk, OnOk, IsUtf8, string_bytes};
+ghost use Rattle.std.specs.Prelude.{◌↔◌, IsTrue, IsErr};
 ghost use Rattle.std.specs.Io.{ReadsAtMost};
-ghost use Rattle.dm_disk_real.specs.FileName.{IsFileName};
 
-use dm_disk_model::NameList;
+use crate::fault::FolderFault;
+use crate::name::{file_name, put_path};
+use crate::recent::Recent;
+use crate::syncs::Syncs;
+use dm_disk_model::{NameList, ends_far};
 use dm_types::{NoMemory, Text};
-use std::alloc::{AllocError, Global};
-use std::fs::{File, OpenFile, OpenOptions};
+use std::alloc::Global;
+use std::fs::{File, OpenFile};
 use std::io::{ErrorKind, Read};
 use std::os::unix::fs::FileExt;
 use std::rt::Files;
-use std::{fs, io, str};
+use std::{fs, io};
 
 /// Room for a path's name: file systems take 255 bytes.
 const NAME_ROOM: usize = 256;
@@ -19,25 +22,17 @@ const NAME_ROOM: usize = 256;
 pub(crate) struct Folder {
     /// The folder's path, with a slash at its end.
     prefix: String,
-    /// The path of the file that was used last.
+    recent: Recent,
+    /// Two paths, for a look and for a rename.
     path: String,
-    /// A second path, for a rename.
     other: String,
-    /// That file, where it is open.
-    used: Option<Used>,
-    /// The folder itself, open to be synced.
+    /// The folder itself, open to be synced and locked.
     entries: File,
-}
-
-#[derive(Drop)]
-struct Used {
-    file: File,
-    writable: bool,
+    syncs: Syncs,
 }
 
 impl Folder {
-    /// Makes the folder where it is missing, and takes the room for its paths. The folder above it
-    /// is synced, so that a crash keeps it.
+    /// Makes the folder where it is missing, and takes the room for its paths.
     pub(crate) fn new<R: Files<File = File>>(
         rt: &R,
         alloc: Global,
@@ -47,22 +42,37 @@ impl Folder {
         prefix.push_str(path)?;
         prefix.push('/')?;
         let room = prefix.len().saturating_add(NAME_ROOM);
+        let recent = Recent::new(String::with_capacity(alloc, room)?);
         let path_room = String::with_capacity(alloc, room)?;
-        let mut other = String::with_capacity(alloc, room)?;
+        let other = String::with_capacity(alloc, room)?;
         match fs::create_dir(rt, path) {
             Err(e) if e.kind() != ErrorKind::AlreadyExists => return Err(e.into()),
             _ => {}
         }
         let entries = File::open(rt, prefix.as_str())?;
-        put_path(&mut other, prefix.as_str(), "..")?;
-        File::open(rt, other.as_str())?.sync_all()?;
         Ok(Folder {
             prefix,
+            recent,
             path: path_room,
             other,
-            used: None,
             entries,
+            syncs: Syncs::new(),
         })
+    }
+
+    /// Locks the folder for as long as it is held here. It fails where another program holds it.
+    pub(crate) fn lock(&self) -> Result<(), FolderFault> {
+        match self.entries.try_lock() {
+            Ok(()) => Ok(()),
+            Err(e) => Err(FolderFault::System(e.into())),
+        }
+    }
+
+    /// Makes the folder's own name durable, so that a crash keeps a folder that was made.
+    pub(crate) fn sync_above<R: Files<File = File>>(&mut self, rt: &R) -> Result<(), FolderFault> {
+        put_path(&mut self.other, self.prefix.as_str(), "..")?;
+        File::open(rt, self.other.as_str())?.sync_all()?;
+        Ok(())
     }
 
     /// The names that stand here, but for `.` and `..`. They need not be UTF-8.
@@ -85,18 +95,22 @@ impl Folder {
         Err(FolderFault::System(ErrorKind::Other.into()))
     }
 
-    /// The file's length in bytes, or `None` where nothing stands there.
+    /// The file's length in bytes, or `None` where nothing stands there. A link that leads nowhere
+    /// stands, and is as long as its own text.
     pub(crate) fn length<R: Files<File = File>>(
         &mut self,
         rt: &R,
         name: &Text,
     ) -> io::Result<Option<u64>> {
-        self.aim(name)?;
-        let found = match &self.used {
-            Some(used) => used.file.metadata(),
-            None => fs::metadata(rt, self.path.as_str()),
-        };
-        match found {
+        let name = file_name(name)?;
+        if let Some(file) = self.recent.find(self.prefix.as_str(), name) {
+            return Ok(Some(file.metadata()?.len()));
+        }
+        put_path(&mut self.path, self.prefix.as_str(), name)?;
+        if let Ok(metadata) = fs::metadata(rt, self.path.as_str()) {
+            return Ok(Some(metadata.len()));
+        }
+        match fs::symlink_metadata(rt, self.path.as_str()) {
             Ok(metadata) => Ok(Some(metadata.len())),
             Err(e) if e.kind() == ErrorKind::NotFound => Ok(None),
             Err(e) => Err(e),
@@ -113,12 +127,13 @@ impl Folder {
     ) -> io::Result<usize>
         ensures { ReadsAtMost result buf.new }
     {
-        let file = self.open(rt, name, false)?;
-        if at >= FAR {
+        let (prefix, name) = (self.prefix.as_str(), file_name(name)?);
+        let open = self.recent.open(rt, &mut self.syncs, prefix, name, false)?;
+        if ends_far(at, 0) {
             return Ok(0);
         }
         for _ in 0..u64::MAX {
-            match file.read_at(buf, at) {
+            match open.file.read_at(buf, at) {
                 Err(e) if e.kind() == ErrorKind::Interrupted => {}
                 answer => return answer,
             }
@@ -126,16 +141,10 @@ impl Folder {
         Err(ErrorKind::Other.into())
     }
 
-    /// Makes an empty file, where none stands.
+    /// Makes an empty file, where nothing stands.
     pub(crate) fn create<R: Files<File = File>>(&mut self, rt: &R, name: &Text) -> io::Result<()> {
-        self.aim(name)?;
-        self.used = None;
-        let file = File::create_new(rt, self.path.as_str())?;
-        self.used = Some(Used {
-            file,
-            writable: true,
-        });
-        Ok(())
+        let (prefix, name) = (self.prefix.as_str(), file_name(name)?);
+        self.recent.create(rt, &mut self.syncs, prefix, name)
     }
 
     /// Writes all the bytes from a place of the file on.
@@ -146,107 +155,71 @@ impl Folder {
         at: u64,
         bytes: &[u8],
     ) -> io::Result<()> {
-        self.open(rt, name, true)?.write_all_at(bytes, at)
+        let (prefix, name) = (self.prefix.as_str(), file_name(name)?);
+        let open = self.recent.open(rt, &mut self.syncs, prefix, name, true)?;
+        open.write_at(at, bytes)
     }
 
-    pub(crate) fn sync<R: Files<File = File>>(&mut self, rt: &R, name: &Text) -> io::Result<()> {
-        self.open(rt, name, true)?.sync_all()
+    /// Makes the file durable. Once a sync of this folder failed, each later one fails.
+    pub(crate) fn sync<R: Files<File = File>>(&mut self, rt: &R, name: &Text) -> io::Result<()>
+        ensures later { IsTrue self.old.syncs.has_failed → IsErr result }
+        ensures marks { IsTrue self.new.syncs.has_failed ↔ IsErr result }
+    {
+        let answer = self.sync_file(rt, name);
+        self.syncs.settle(answer)
     }
 
+    fn sync_file<R: Files<File = File>>(&mut self, rt: &R, name: &Text) -> io::Result<()>
+        ensures { IsTrue self.old.syncs.has_failed → IsTrue self.new.syncs.has_failed }
+    {
+        let (prefix, name) = (self.prefix.as_str(), file_name(name)?);
+        let open = self.recent.open(rt, &mut self.syncs, prefix, name, true)?;
+        open.sync()
+    }
+
+    /// Makes the names durable. Once a sync of this folder failed, each later one fails.
+    pub(crate) fn sync_names(&mut self) -> io::Result<()>
+        ensures later { IsTrue self.old.syncs.has_failed → IsErr result }
+        ensures marks { IsTrue self.new.syncs.has_failed ↔ IsErr result }
+    {
+        let answer = self.entries.sync_all();
+        self.syncs.settle(answer)
+    }
+
+    /// Gives the file another name, and replaces what stands under that.
     pub(crate) fn rename<R: Files<File = File>>(
         &mut self,
         rt: &R,
         from: &Text,
         to: &Text,
     ) -> io::Result<()> {
-        self.aim(from)?;
-        put_path(&mut self.other, self.prefix.as_str(), file_name(to)?)?;
-        self.used = None;
+        let (prefix, from, to) = (self.prefix.as_str(), file_name(from)?, file_name(to)?);
+        put_path(&mut self.path, prefix, from)?;
+        put_path(&mut self.other, prefix, to)?;
+        self.recent.close_at(&mut self.syncs, prefix, from);
+        self.recent.close_at(&mut self.syncs, prefix, to);
         fs::rename(rt, self.path.as_str(), self.other.as_str())
     }
 
-    pub(crate) fn remove<R: Files<File = File>>(&mut self, rt: &R, name: &Text) -> io::Result<()> {
-        self.aim(name)?;
-        self.used = None;
-        fs::remove_file(rt, self.path.as_str())
-    }
-
-    pub(crate) fn sync_names(&self) -> io::Result<()> {
-        self.entries.sync_all()
-    }
-
-    /// The file under this name, open to be read and, where that is asked for, written.
-    fn open<R: Files<File = File>>(
+    /// Gives the file another name, under which nothing stands.
+    pub(crate) fn rename_to_free<R: Files<File = File>>(
         &mut self,
         rt: &R,
-        name: &Text,
-        writes: bool,
-    ) -> io::Result<&File> {
-        self.aim(name)?;
-        let used = match self.used.take() {
-            Some(used) if used.writable || !writes => used,
-            _ => Used {
-                file: OpenOptions::new()
-                    .read(true)
-                    .write(writes)
-                    .open(rt, self.path.as_str())?,
-                writable: writes,
-            },
-        };
-        Ok(&self.used.insert(used).file)
-    }
-
-    /// Makes `path` the path of this name. Where it was another, its file is closed.
-    fn aim(&mut self, name: &Text) -> io::Result<()> {
-        let name = file_name(name)?;
-        if self.path.as_str().strip_prefix(self.prefix.as_str()) == Some(name) {
-            return Ok(());
+        from: &Text,
+        to: &Text,
+    ) -> io::Result<()> {
+        match self.length(rt, to)? {
+            Some(_) => Err(ErrorKind::AlreadyExists.into()),
+            None => self.rename(rt, from, to),
         }
-        self.used = None;
-        put_path(&mut self.path, self.prefix.as_str(), name)
     }
-}
 
-/// Where the last place of any file lies below.
-pub(crate) const FAR: u64 = 1 << 63;
-
-/// Why a folder could not be made or listed.
-#[derive(Debug, Drop)]
-pub(crate) enum FolderFault {
-    System(io::Error),
-    NoMemory,
-}
-
-impl From<io::Error> for FolderFault {
-    ghost use Rattle.std.specs.Prelude.{◌≡◌};
-    ghost use Rattle.dm_disk_real.specs.declared.folder.FolderFault.TheVariants.{System};
-
-    ghost from_gives = { λ error fault. fault ≡ System error };
-
-    fn from(error: io::Error) -> FolderFault {
-        FolderFault::System(error)
-    }
-}
-
-impl From<NoMemory> for FolderFault {
-    ghost use Rattle.std.specs.Prelude.{◌≡◌};
-    ghost use Rattle.dm_disk_real.specs.declared.folder.FolderFault.TheVariants.{NoMemory as Wanting};
-
-    ghost from_gives = { λ _ fault. fault ≡ Wanting };
-
-    fn from(_: NoMemory) -> FolderFault {
-        FolderFault::NoMemory
-    }
-}
-
-impl From<AllocError> for FolderFault {
-    ghost use Rattle.std.specs.Prelude.{◌≡◌};
-    ghost use Rattle.dm_disk_real.specs.declared.folder.FolderFault.TheVariants.{NoMemory as Wanting};
-
-    ghost from_gives = { λ _ fault. fault ≡ Wanting };
-
-    fn from(_: AllocError) -> FolderFault {
-        FolderFault::NoMemory
+    /// Takes the file's name away. Of a link that is the link itself.
+    pub(crate) fn remove<R: Files<File = File>>(&mut self, rt: &R, name: &Text) -> io::Result<()> {
+        let (prefix, name) = (self.prefix.as_str(), file_name(name)?);
+        self.recent.drop_at(prefix, name);
+        put_path(&mut self.path, prefix, name)?;
+        fs::remove_file(rt, self.path.as_str())
     }
 }
 
@@ -258,37 +231,4 @@ fn push_names(alloc: Global, names: &mut NameList, read: &[u8]) -> Result<(), No
         }
     }
     Ok(())
-}
-
-/// The path of a name in a folder.
-fn put_path(path: &mut String, prefix: &str, name: &str) -> io::Result<()>
-    ensures { OnOk result (string_bytes path.new ≡ prefix.now ++ name.now) }
-{
-    path.clear();
-    path.push_str(prefix)?;
-    path.push_str(name)?;
-    Ok(())
-}
-
-/// The name of a file, which never leads out of its folder. One that isn't UTF-8 can't be opened.
-fn file_name(name: &Text) -> io::Result<&str>
-    ensures ok { IfOk result (λ text. (text.now ≡ name.now) × IsFileName name.now) }
-    ensures when { IsOk result ↔ (IsFileName name.now × IsUtf8 name.now) }
-{
-    if !is_file_name(name.bytes()) {
-        return Err(ErrorKind::InvalidInput.into());
-    }
-    match str::from_utf8(name.bytes()) {
-        Ok(text) => Ok(text),
-        Err(_) => Err(ErrorKind::InvalidInput.into()),
-    }
-}
-
-fn is_file_name(name: &[u8]) -> bool
-    ensures { IsTrue result ↔ IsFileName name.now }
-{
-    match name {
-        b"" | b"." | b".." => false,
-        _ => !name.contains(&b'/'),
-    }
 }

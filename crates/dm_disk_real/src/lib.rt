@@ -2,8 +2,12 @@
 #![tactic(auto)]
 
 mod counts;
+mod fault;
 mod folder;
+mod name;
 mod real;
+mod recent;
+mod syncs;
 
 pub use counts::Counts;
 pub use real::RealDisk;

@@ -1,10 +1,12 @@
-ghost use Rattle.std.specs.Prelude.{◌≡◌, ◌+◌, ◌^◌, ◌≤◌, ◌↔◌, IsTrue, IfOk};
-ghost use Rattle.dm_disk_real.specs.Counts.{no_faults, count_of, untold};
+ghost use Rattle.std.specs.Prelude.{◌≡◌, IfOk};
+ghost use Rattle.dm_disk_model.specs.Counts.{count_of};
+ghost use Rattle.dm_disk_real.specs.Counts.{none_failed, untold};
 
 use crate::Counts;
 use crate::counts::kind_of_error;
-use crate::folder::{FAR, Folder, FolderFault};
-use dm_disk_model::{Area, Disk, DiskFault, NameList, NamesFault, Place};
+use crate::fault::FolderFault;
+use crate::folder::Folder;
+use dm_disk_model::{Area, Disk, DiskFault, NameList, NamesFault, Place, ends_far};
 use dm_types::DiskKind;
 use std::alloc::Global;
 use std::fs::File;
@@ -45,12 +47,17 @@ impl Folders {
 
 impl<R: Files<File = File> + Drop> RealDisk<R> {
     /// The disk over these two folders, which are made where they are missing. The folders that
-    /// they stand in have to stand. No count exists before the disk does, so a fault here has none.
+    /// they stand in have to stand. The state folder is locked for as long as the disk is held, and
+    /// nothing is made or synced where another program holds it. No count exists before the disk
+    /// does, so a fault here has none.
     pub fn new(rt: R, alloc: Global, state: &str, files: &str) -> Result<RealDisk<R>, NamesFault>
-        ensures { IfOk result (λ disk. disk ≡ no_faults) }
+        ensures { IfOk result (λ disk. disk ≡ none_failed) }
     {
-        let state = Folder::new(&rt, alloc, state)?;
-        let files = Folder::new(&rt, alloc, files)?;
+        let mut state = Folder::new(&rt, alloc, state)?;
+        state.lock()?;
+        let mut files = Folder::new(&rt, alloc, files)?;
+        state.sync_above(&rt)?;
+        files.sync_above(&rt)?;
         Ok(RealDisk {
             rt,
             folders: Folders { state, files },
@@ -73,22 +80,12 @@ impl From<FolderFault> for NamesFault {
     }
 }
 
-/// Whether a range of so many bytes would end at 2^63 or above.
-fn ends_far(at: u64, count: usize) -> bool
-    ensures { IsTrue result ↔ (2 ^ 63 ≤ at + count) }
-{
-    match at.checked_add(count as u64) {
-        Some(end) => end >= FAR,
-        None => true,
-    }
-}
-
 impl<R: Files<File = File> + Drop> Disk for RealDisk<R> {
     ghost tells = { ⊥ };
 
     ghost history = { λ _. untold };
 
-    ghost faults = { count_of };
+    ghost faults = { λ counts. count_of counts.kinds };
 
     ghost far = { λ counts. counts.far };
 
@@ -99,7 +96,7 @@ impl<R: Files<File = File> + Drop> Disk for RealDisk<R> {
             Ok(names) => Ok(names),
             Err(FolderFault::NoMemory) => Err(NamesFault::NoMemory),
             Err(FolderFault::System(e)) => {
-                let fault = self.counts.fault(kind_of_error(&e));
+                let fault = self.counts.kinds.fail(kind_of_error(&e));
                 Err(NamesFault::Disk(fault.0))
             }
         }
@@ -141,12 +138,13 @@ impl<R: Files<File = File> + Drop> Disk for RealDisk<R> {
 
     fn rename(&mut self, from: &Place, to: &Place) -> Result<(), DiskFault> {
         if from.area != to.area {
-            return Err(self.counts.fault(DiskKind::Failed));
+            return Err(self.counts.kinds.fail(DiskKind::Failed));
         }
-        let answer = self
-            .folders
-            .at(from.area)
-            .rename(&self.rt, &from.name, &to.name);
+        let folder = self.folders.at(from.area);
+        let answer = match from.area {
+            Area::State => folder.rename(&self.rt, &from.name, &to.name),
+            Area::Files => folder.rename_to_free(&self.rt, &from.name, &to.name),
+        };
         self.counts.answer(answer)
     }
 

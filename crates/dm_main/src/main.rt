@@ -2,15 +2,17 @@
 #![tactic(auto)]
 
 mod output;
+mod streams;
 mod words;
 
 use dm_cli::{Ending, print, refused, run_words};
 use dm_disk_model::NamesFault;
 use dm_disk_real::RealDisk;
 use dm_edge_real::{StreamSink, SystemClock, TcpNet};
-use dm_types::Text;
+use dm_types::{DiskKind, Text};
 use output::Output;
 use std::process::ExitCode;
+use streams::hold_streams;
 use words::{WordsFault, read_words};
 
 /// The folders of the disk, in the folder that the program is started in.
@@ -39,6 +41,8 @@ fn run(
 }
 
 fn main(rt: HostRuntime) -> ExitCode {
+    // Before any other file is opened. They are held to the end.
+    let streams = hold_streams(&rt);
     let alloc = rt.alloc();
     let mut out = StreamSink::new(Output::out(&rt));
     let mut errs = StreamSink::new(Output::errs(&rt));
@@ -51,9 +55,10 @@ fn main(rt: HostRuntime) -> ExitCode {
             return ExitCode::from(print(&Ending::NoMemory, &mut out, &mut errs));
         }
     };
-    let status = match refused(alloc, &words) {
-        Some(ending) => print(&ending, &mut out, &mut errs),
-        None => run(rt, &words, &mut out, &mut errs),
+    let status = match (refused(alloc, &words), &streams) {
+        (Some(ending), _) => print(&ending, &mut out, &mut errs),
+        (None, Ok(_)) => run(rt, &words, &mut out, &mut errs),
+        (None, Err(_)) => print(&Ending::DiskFailed(DiskKind::Failed), &mut out, &mut errs),
     };
     ExitCode::from(status)
 }
