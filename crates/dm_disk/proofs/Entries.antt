@@ -19,7 +19,7 @@ use Rattle.dm_disk_model.specs.declared.place.Area.TheVariants.{State, Files}
 use Rattle.dm_disk.specs.declared.index.Named.{Named}
 use Rattle.dm_disk.specs.declared.index.Standing.{Standing}
 use Rattle.dm_disk.specs.Image.{same_area}
-use Rattle.dm_disk.specs.Index.{is_for, look, others_than, names_listed, standing_at, AreForTwo, Tells, Sets, Moves, grown_in, entry_grown}
+use Rattle.dm_disk.specs.Index.{is_for, look, others_than, names_listed, standing_at, AreForTwo, IsIndexOf, Sets, Moves, grown_in, entry_grown}
 
 pub same_area_true : (a b : Area) → same_area a b ≡ true → a ≡ b
 same_area_true State State is = refl
@@ -279,7 +279,7 @@ is_some_map f None = refl
 is_some_map f (Some value) = refl
 
 -- an index that tells of the disk lists its names
-pub lists_names : (area : Area) (disk : DiskState) (entries : List Named) → Tells disk entries → Lists (folder_in area disk) (names_listed area entries)
+pub lists_names : (area : Area) (disk : DiskState) (entries : List Named) → IsIndexOf disk entries → Lists (folder_in area disk) (names_listed area entries)
 lists_names area disk entries told = record {
   each = λ name.
       let same : is_some (look area name entries) ≡ is_some (names_of (folder_in area disk) name) =

@@ -11,8 +11,9 @@ use Rattle.dm_disk.specs.declared.call.Act.TheVariants.{Create, Write, Rename, R
 use Rattle.dm_disk.specs.declared.index.Named.{Named}
 use Rattle.dm_disk.specs.declared.index.Standing.{Standing}
 use Rattle.dm_disk.specs.Calls.{folder_after, in_folder, disk_after}
-use Rattle.dm_disk.specs.SoundCalls.{IsMade, IsMadeDisk, made_after}
-use Rattle.dm_disk.specs.Index.{look, standing_of, standing_in, Tells, Sets, Moves, Follows, grown_in, entry_grown}
+use Rattle.dm_disk.specs.Made.{IsMade, IsMadeDisk}
+use Rattle.dm_disk.specs.SoundCalls.{made_after}
+use Rattle.dm_disk.specs.Index.{look, standing_of, standing_in, IsIndexOf, Sets, Moves, Follows, grown_in, entry_grown}
 use Rattle.dm_disk.proofs.Entries.{place_cases, look_grown, once_grown}
 use Rattle.dm_disk.proofs.Replay.{disk_after_push}
 use Rattle.dm_disk.proofs.Standings.{standing_here, others_stay, written_in_both, standing_created, standing_beside_created, standing_renamed, standing_renamed_away, standing_beside_renamed, standing_removed, standing_beside_removed}
@@ -32,7 +33,7 @@ at_place disk entries area a name other here same_folder same_name =
 set_in_both : (area : Area) (name : List ℕ) (found : Option Standing) (old new : List Named) (step : Folder → Folder) (disk : DiskState)
     → Sets area name found old new → standing_of (step (folder_in area disk)) name ≡ found
     → ((other : List ℕ) → other ≢ name → standing_of (step (folder_in area disk)) other ≡ standing_of (folder_in area disk) other)
-    → Tells disk old → Tells (in_folder area step disk) new
+    → IsIndexOf disk old → IsIndexOf (in_folder area step disk) new
 set_in_both area name found old new step disk sets here stay told = record {
   each = λ a other. ⊎_elim
       (λ (same : (a ≡ area) × (other ≡ name)).
@@ -100,8 +101,8 @@ follows_rename number area act from to old new is moves =
     })
 
 -- the index followed the call that was recorded
-pub tells_more : (calls : List Call) (call : Call) (number : ℕ) (old new : List Named) → number ≡ length calls → Follows number call.area call.act old new → Tells (disk_after calls) old
-    → Tells (disk_after (calls ++ call ∷ [])) new
+pub tells_more : (calls : List Call) (call : Call) (number : ℕ) (old new : List Named) → number ≡ length calls → Follows number call.area call.act old new → IsIndexOf (disk_after calls) old
+    → IsIndexOf (disk_after (calls ++ call ∷ [])) new
 tells_more calls call number old new is follows told =
-    subst (λ (disk : DiskState). Tells disk new) (sym (disk_after_push calls call))
+    subst (λ (disk : DiskState). IsIndexOf disk new) (sym (disk_after_push calls call))
     (subst (λ (n : ℕ). Follows n call.area call.act old new) is follows (disk_after calls) (made_after calls) told)

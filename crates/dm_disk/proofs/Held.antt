@@ -1,14 +1,14 @@
 -- What a disk holds that was made of a picked image: one of the old disk's images, and no other.
 use Rattle.std.proofs.Common.{◌≡◌, ℕ, ◌≤◌, List, [], length, take, Option, Some, None, refl, sym, ◌∙◌, ap, subst, arith}
 use Rattle.std.specs.Option.{option_map}
-use Rattle.std.proofs.lemmas.List.{take_all, ext_get_or}
-use Rattle.dm_disk_model.specs.File.{File, FileLeaves, IsUntouched}
+use Rattle.std.proofs.lemmas.List.{take_all}
+use Rattle.dm_disk_model.specs.File.{File, FileLeaves, IsAllClean}
 use Rattle.dm_disk_model.specs.Folder.{Folder, Contents, Change, FolderLeaves, NameLeaves, IsSoundFolder, names_of, contents_of, after_changes}
 use Rattle.dm_disk_model.specs.Disk.{DiskState, Image, MayLeave, IsSoundDisk, reading, now}
-use Rattle.dm_disk_model.proofs.Images.{file_as_read}
+use Rattle.dm_disk_model.proofs.Images.{file_as_read, settled_leaves}
 use Rattle.dm_disk.specs.declared.image.Pick.{Pick}
 use Rattle.dm_disk.specs.declared.image.Pick.TheVariants.{Least, Present}
-use Rattle.dm_disk.specs.Image.{IsPicked, NamePicked, IsSettled, FolderPicked, HoldsPicked, HasSame}
+use Rattle.dm_disk.specs.Image.{IsPicked, NamePicked, FolderPicked, HoldsPicked, HasSame}
 use Rattle.dm_disk.specs.declared.call.Call.{Call}
 use Rattle.dm_disk.specs.Calls.{disk_after, history_of}
 use Rattle.dm_disk.specs.SoundCalls.{sound_after}
@@ -56,16 +56,10 @@ name_present files (Some number) None is = absurd is
 pub folder_present : (old new : Folder) → FolderPicked Present old new → (name : List ℕ) → contents_of new name ≡ contents_of old name
 folder_present old new picked name = name_present old.file (names_of old name) (contents_of new name) (picked.each name)
 
-file_only : (file : File) (bytes : List ℕ) → IsSettled file → FileLeaves file bytes → bytes ≡ file.bytes
-file_only file bytes settled left =
-    let same_long : length bytes ≡ length file.bytes = let a = left.no_shorter in let b = left.no_longer in let s = settled.synced in omega (arith, a, b, s) in
-    ext_get_or 0 bytes file.bytes same_long
-    (λ i lt. left.clean i (record {
-      below = let s = settled.synced in omega (arith, lt, same_long, s);
-      untouched = subst (λ (ranges : List (ℕ × ℕ)). IsUntouched ranges i) (sym settled.touched) tt;
-    }))
+file_only : (file : File) (bytes : List ℕ) → IsAllClean file → FileLeaves file bytes → bytes ≡ file.bytes
+file_only file bytes clean left = settled_leaves file.bytes bytes (subst (λ (f : File). FileLeaves f bytes) clean left)
 
-name_only : (files : ℕ → File) (number : Option ℕ) (found : Option (List ℕ)) → ((n : ℕ) → number ≡ Some n → IsSettled (files n)) → NameLeaves files number found → found ≡ option_map (λ n. (files n).bytes) number
+name_only : (files : ℕ → File) (number : Option ℕ) (found : Option (List ℕ)) → ((n : ℕ) → number ≡ Some n → IsAllClean (files n)) → NameLeaves files number found → found ≡ option_map (λ n. (files n).bytes) number
 name_only files None None settled left = refl
 name_only files (Some number) (Some bytes) settled left = ap Some (file_only (files number) bytes (settled number refl) left)
 name_only files None (Some bytes) settled left = absurd left

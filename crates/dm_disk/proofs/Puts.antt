@@ -2,8 +2,8 @@
 use Rattle.std.proofs.Common.{◌≡◌, ◌≢◌, ⊎_elim, ℕ, ◌+◌, List, [], ◌∷◌, ◌++◌, length, Option, Some, None, refl, sym, ◌∙◌, ap, subst, arith}
 use Rattle.std.specs.Option.{option_map}
 use Rattle.std.proofs.lemmas.List.{drop_all, append-nil}
-use Rattle.dm_disk_model.specs.File.{File, empty_file, synced_file, overwrite}
-use Rattle.dm_disk_model.specs.Folder.{Names, Folder, Created, names_of, contents_of, after_change}
+use Rattle.dm_disk_model.specs.File.{File, IsAllClean, empty_file, synced_file, overwrite}
+use Rattle.dm_disk_model.specs.Folder.{Names, Folder, AreSettled, Created, names_of, contents_of, after_change}
 use Rattle.dm_disk_model.specs.Disk.{DiskState, folder_in}
 use Rattle.dm_disk_model.specs.Laws.{other_area}
 use Rattle.dm_disk_model.specs.declared.place.Area.{Area}
@@ -12,8 +12,9 @@ use Rattle.dm_disk_model.proofs.PendingNames.{each_now, names_more, with_name_sa
 use Rattle.dm_disk.specs.declared.call.Call.{Call}
 use Rattle.dm_disk.specs.declared.call.Act.TheVariants.{Create, Write, Sync}
 use Rattle.dm_disk.specs.Calls.{written_file, folder_after, in_folder, disk_after}
-use Rattle.dm_disk.specs.SoundCalls.{AreBelow, IsMade, made_after}
-use Rattle.dm_disk.specs.Image.{IsSettled, AreSettled, Puts}
+use Rattle.dm_disk.specs.Made.{AreBelow, IsMade}
+use Rattle.dm_disk.specs.SoundCalls.{made_after}
+use Rattle.dm_disk.specs.Image.{Puts}
 use Rattle.dm_disk.proofs.Replay.{with_file_same, with_file_other, disk_after_push, folder_in_same}
 
 -- a folder after a new file was made, written and synced
@@ -23,7 +24,7 @@ filled number name bytes folder = folder_after (number + 2) (Sync number) (folde
 overwrite_all : (bytes : List ℕ) → overwrite [] 0 bytes ≡ bytes
 overwrite_all bytes = ap (λ (xs : List ℕ). bytes ++ xs) (drop_all (0 + length bytes) [] (omega arith)) ∙ append-nil bytes
 
-filled_file : (number : ℕ) (name bytes : List ℕ) (folder : Folder) → ((filled number name bytes folder).file number).bytes ≡ bytes × IsSettled ((filled number name bytes folder).file number)
+filled_file : (number : ℕ) (name bytes : List ℕ) (folder : Folder) → ((filled number name bytes folder).file number).bytes ≡ bytes × IsAllClean ((filled number name bytes folder).file number)
 unfolding filled
 filled_file number name bytes folder =
     let made : Folder = folder_after number (Create name) folder in
@@ -31,7 +32,7 @@ filled_file number name bytes folder =
     let new : made.file number ≡ empty_file = with_file_same folder.file number empty_file in
     let is_wrote : wrote.file number ≡ written_file 0 bytes empty_file = with_file_same made.file number (written_file 0 bytes (made.file number)) ∙ ap (written_file 0 bytes) new in
     let is : (filled number name bytes folder).file number ≡ synced_file (written_file 0 bytes empty_file) = with_file_same wrote.file number (synced_file (wrote.file number)) ∙ ap synced_file is_wrote in
-    (ap (λ (f : File). f.bytes) is ∙ overwrite_all bytes, subst IsSettled (sym is) (record { synced = refl; touched = refl }))
+    (ap (λ (f : File). f.bytes) is ∙ overwrite_all bytes, subst IsAllClean (sym is) refl)
 
 filled_other : (number : ℕ) (name bytes : List ℕ) (folder : Folder) (other : ℕ) → other ≢ number → (filled number name bytes folder).file other ≡ folder.file other
 unfolding filled
@@ -73,8 +74,8 @@ filled_settled : (number : ℕ) (name bytes : List ℕ) (folder : Folder) → Ar
 filled_settled number name bytes folder below settled other n has =
     let new : Folder = filled number name bytes folder in
     ⊎_elim
-    (λ made. subst (λ (k : ℕ). IsSettled (new.file k)) made.1 (filled_file number name bytes folder).1)
-    (λ old. subst IsSettled (sym (filled_other number name bytes folder n (λ (same : n ≡ number). let low = below other n old.1 in omega (arith, low, same)))) (settled other n old.1))
+    (λ made. subst (λ (k : ℕ). IsAllClean (new.file k)) made.1 (filled_file number name bytes folder).1)
+    (λ old. subst IsAllClean (sym (filled_other number name bytes folder n (λ (same : n ≡ number). let low = below other n old.1 in omega (arith, low, same)))) (settled other n old.1))
     (had_created (names_of folder) name number other n (ap (λ (names : Names). names other) (sym (filled_names number name bytes folder)) ∙ has))
 
 thrice : (area : Area) (first second third : Folder → Folder) (disk : DiskState)

@@ -14,7 +14,7 @@ use Rattle.dm_disk.specs.declared.call.Act.TheVariants.{Create, Write, Sync, Ren
 use Rattle.dm_disk.specs.Calls.{folder_after, in_folder, written_file, disk_from, disk_after, empty_disk, end_of, most_end}
 use Rattle.dm_disk.specs.declared.index.Named.{Named}
 use Rattle.dm_disk.specs.declared.index.Standing.{Standing}
-use Rattle.dm_disk.specs.Index.{look, standing_at, Tells}
+use Rattle.dm_disk.specs.Index.{look, standing_at, IsIndexOf}
 use Rattle.dm_disk.specs.Look.{file_in}
 use Rattle.dm_disk.proofs.Replay.{file_after_act}
 
@@ -72,7 +72,7 @@ size_within calls area file =
     omega (arith, low)
 
 -- what the index has is no longer
-pub size_near : (calls : List Call) (entries : List Named) (area : Area) (name : List ℕ) (standing : Standing) → Tells (disk_after calls) entries → look area name entries ≡ Some standing
+pub size_near : (calls : List Call) (entries : List Named) (area : Area) (name : List ℕ) (standing : Standing) → IsIndexOf (disk_after calls) entries → look area name entries ≡ Some standing
     → standing.size ≤ most_end calls
 size_near calls entries area name standing told found = by (names_of (folder_in area (disk_after calls)) name) (sym (told.each area name) ∙ found)
   where

@@ -11,7 +11,7 @@ use Rattle.dm_disk_model.proofs.PendingNames.{each_now}
 use Rattle.dm_disk.specs.declared.call.Act.TheVariants.{Create, Write, Rename, Remove}
 use Rattle.dm_disk.specs.declared.index.Standing.{Standing}
 use Rattle.dm_disk.specs.Calls.{folder_after, in_folder, written_file}
-use Rattle.dm_disk.specs.SoundCalls.{AreBelow, IsMade}
+use Rattle.dm_disk.specs.Made.{AreBelow, IsMade}
 use Rattle.dm_disk.specs.Index.{standing_at, standing_of, standing_in, grown, grown_in}
 use Rattle.dm_disk.proofs.Looks.{created_here, created_other, renamed_to, renamed_from, renamed_other, removed_here, removed_other}
 use Rattle.dm_disk.proofs.Replay.{with_file_same, with_file_other, file_after_act}

@@ -9,7 +9,8 @@ use Rattle.dm_disk_model.specs.declared.place.Place.{Place}
 use Rattle.dm_disk.specs.declared.call.Call.{Call}
 use Rattle.dm_disk.specs.declared.call.Act.TheVariants.{Create, Write, Sync, Rename, Remove, SyncNames}
 use Rattle.dm_disk.specs.Calls.{folder_after, disk_after, history_of, written_file}
-use Rattle.dm_disk.specs.SoundCalls.{IsMade, made_after}
+use Rattle.dm_disk.specs.Made.{IsMade}
+use Rattle.dm_disk.specs.SoundCalls.{made_after}
 use Rattle.dm_disk.proofs.Moments.{pushed_to}
 use Rattle.dm_disk.proofs.Replay.{in_area, with_file_same, with_file_other}
 

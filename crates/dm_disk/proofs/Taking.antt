@@ -9,7 +9,7 @@ use Rattle.std.proofs.lemmas.List.Elements.{Contains-push, Contains-push_cases, 
 use Rattle.std.proofs.lemmas.Option.{none-some}
 use Rattle.std.proofs.lemmas.Slice.Eq.{bytes_eq-Decides}
 use Rattle.std.specs.Bool.{Decides}
-use Rattle.dm_disk_model.specs.Folder.{Names, Folder, Lists, names_of, contents_of}
+use Rattle.dm_disk_model.specs.Folder.{Names, Folder, AreSettled, Lists, names_of, contents_of}
 use Rattle.dm_disk_model.specs.Disk.{DiskState, folder_in}
 use Rattle.dm_disk_model.specs.Laws.{other_area}
 use Rattle.dm_disk_model.specs.declared.place.Area.{Area}
@@ -18,7 +18,7 @@ use Rattle.dm_disk.specs.declared.call.Call.{Call}
 use Rattle.dm_disk.specs.declared.call.Act.TheVariants.{SyncNames}
 use Rattle.dm_disk.specs.declared.image.Pick.{Pick}
 use Rattle.dm_disk.specs.Calls.{folder_after, in_folder, disk_after, empty_disk}
-use Rattle.dm_disk.specs.Image.{picked_names, IsPicked, NamePicked, AreSettled, FolderPicked, HoldsPicked, IsTaken, Puts}
+use Rattle.dm_disk.specs.Image.{picked_names, IsPicked, NamePicked, FolderPicked, HoldsPicked, IsTaken, Puts}
 use Rattle.dm_disk.proofs.Replay.{disk_after_push, folder_in_same}
 
 -- nothing stands in the folder

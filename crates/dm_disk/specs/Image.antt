@@ -1,7 +1,7 @@
 -- The picked image of a disk, and a disk that holds it alone.
 use Rattle.std.specs.Prelude.{◌≡◌, ◌≢◌, ℕ, ◌<◌, Bool, true, false, ◌&&◌, List, [], length, slice_index, slice_get, Option, Some, None}
 use Rattle.dm_disk_model.specs.File.{File, IsClean}
-use Rattle.dm_disk_model.specs.Folder.{Names, Folder, names_of, contents_of}
+use Rattle.dm_disk_model.specs.Folder.{Names, Folder, AreSettled, names_of, contents_of}
 use Rattle.dm_disk_model.specs.Disk.{DiskState, Image, folder_in}
 use Rattle.dm_disk_model.specs.Laws.{other_area}
 use Rattle.dm_disk_model.specs.declared.place.Area.{Area}
@@ -36,15 +36,6 @@ NamePicked pick files None None = Unit {0}
 NamePicked pick files (Some number) (Some bytes) = IsPicked pick (files number) bytes
 NamePicked pick files None (Some bytes) = ⊥
 NamePicked pick files (Some number) None = ⊥
-
--- all of the file is durable
-pub record IsSettled (file : File) : Type 0 where
-  pub synced : file.synced ≡ length file.bytes
-  pub touched : file.touched ≡ []
-
--- each file that has a name is durable
-abbrev pub AreSettled : Folder → Type 0
-AreSettled folder = (name : List ℕ) (number : ℕ) → names_of folder name ≡ Some number → IsSettled (folder.file number)
 
 -- the folder reads as the picked image of the old one, and all of it is durable
 pub record FolderPicked (pick : Pick) (old new : Folder) : Type 0 where
@@ -81,13 +72,14 @@ pub record NameIsTaken (pick : Pick) (area : Area) (name : List ℕ) (names : Na
   pub picked : IsPicked pick (file_in area number from) bytes
   pub puts : Puts area name bytes old new
 
--- the call synced the names of the folder
+-- the two are one folder
 abbrev pub same_area : Area → Area → Bool
 same_area State State = true
 same_area Files Files = true
 same_area State Files = false
 same_area Files State = false
 
+-- the call syncs names
 abbrev pub syncs : Act → Bool
 syncs SyncNames = true
 syncs (Create name) = false
@@ -96,6 +88,7 @@ syncs (Sync file) = false
 syncs (Rename from to) = false
 syncs (Remove name) = false
 
+-- the call synced the names of the folder
 abbrev pub syncs_names : Area → Call → Bool
 syncs_names area call = same_area area call.area && syncs call.act
 

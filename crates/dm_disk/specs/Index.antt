@@ -10,7 +10,7 @@ use Rattle.dm_disk.specs.declared.index.Named.{Named}
 use Rattle.dm_disk.specs.declared.index.Standing.{Standing}
 use Rattle.dm_disk.specs.Calls.{folder_after, in_folder}
 use Rattle.dm_disk.specs.Image.{same_area}
-use Rattle.dm_disk.specs.SoundCalls.{IsMadeDisk}
+use Rattle.dm_disk.specs.Made.{IsMadeDisk}
 
 -- the entry is for this name
 abbrev pub is_for : Area → List ℕ → Named → Bool
@@ -47,7 +47,7 @@ abbrev pub AreForTwo : Named → Named → Type 0
 AreForTwo one other = one.area ≡ other.area → one.name ≡ other.name → ⊥
 
 -- The index has what stands under each name, and no name twice.
-pub record Tells (disk : DiskState) (entries : List Named) : Type 0 where
+pub record IsIndexOf (disk : DiskState) (entries : List Named) : Type 0 where
   pub each : (area : Area) (name : List ℕ) → look area name entries ≡ standing_in area name disk
   pub once : AllPairs AreForTwo entries
 
@@ -78,4 +78,4 @@ entry_grown area file end one = record { area = one.area; name = one.name; stand
 
 -- If the index told of a disk before the call with this number, it tells of it after the call.
 abbrev pub Follows : ℕ → Area → Act → List Named → List Named → Type 0
-Follows number area act old new = (disk : DiskState) → IsMadeDisk number disk → Tells disk old → Tells (in_folder area (folder_after number act) disk) new
+Follows number area act old new = (disk : DiskState) → IsMadeDisk number disk → IsIndexOf disk old → IsIndexOf (in_folder area (folder_after number act) disk) new

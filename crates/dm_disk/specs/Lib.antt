@@ -1,9 +1,10 @@
 pub mod Calls
 pub mod Failing
-pub mod SoundCalls
 pub mod Look
 pub mod Meter
 pub mod Given
+pub mod Made
 pub mod Memory
+pub mod SoundCalls
 pub mod Image
 pub mod Index

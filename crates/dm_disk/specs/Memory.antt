@@ -8,8 +8,9 @@ use Rattle.dm_disk_model.specs.declared.place.NamesFault.{NamesFault}
 use Rattle.dm_disk_model.specs.declared.place.NamesFault.TheVariants.{Disk, NoMemory}
 use Rattle.dm_disk.specs.declared.memory.MemoryDisk.{MemoryDisk}
 use Rattle.dm_disk.specs.declared.failing.FailingCall.{FailingCall}
+use Rattle.dm_disk_model.specs.Counts.{count_of}
 use Rattle.dm_disk.specs.Calls.{history_of}
-use Rattle.dm_disk.specs.Meter.{due, begun, starved_once, refused_once, faults_of}
+use Rattle.dm_disk.specs.Meter.{due, begun, starved_once, refused_once}
 
 -- what it held at each moment
 abbrev pub history_in : MemoryDisk → History
@@ -21,7 +22,7 @@ held_in disk = now (history_in disk)
 
 -- how often a call failed, by kind
 abbrev pub faults_in : MemoryDisk → DiskKind → ℕ
-faults_in disk = faults_of disk.meter
+faults_in disk = count_of disk.meter.faults
 
 -- how many writes were refused since their range would have ended too far
 abbrev pub far_in : MemoryDisk → ℕ
@@ -65,11 +66,11 @@ pub record IsStarved (old new : MemoryDisk) (fault : Option DiskKind) : Type 0 w
   pub not_due : due_in old ≡ None
   pub counts : new.meter ≡ starved_once (begun None old.meter)
 
--- A call that may have to grow.
-abbrev pub Grows : MemoryDisk → MemoryDisk → Option DiskKind → Type 0
-Grows old new fault = IsInTurn old new fault ⊎ IsStarved old new fault
+-- A call that may want memory.
+abbrev pub MayStarve : MemoryDisk → MemoryDisk → Option DiskKind → Type 0
+MayStarve old new fault = IsInTurn old new fault ⊎ IsStarved old new fault
 
 -- A write: the rule on its end comes first.
 pub record Writes (end : ℕ) (old new : MemoryDisk) (fault : Option DiskKind) : Type 0 where
-  pub near : end < 2 ^ 63 → Grows old new fault
+  pub near : end < 2 ^ 63 → MayStarve old new fault
   pub far : 2 ^ 63 ≤ end → (fault ≡ Some NoSpace) × (new.meter ≡ refused_once old.meter)

@@ -1,9 +1,10 @@
 -- After any calls the disk is sound: no two names share a file, and no file was synced longer than it is.
-use Rattle.std.specs.Prelude.{◌≡◌, ◌≢◌, ℕ, ◌+◌, ◌<◌, ◌≤◌, ◌==◌, Bool, true, false, List, [], ◌∷◌, length, Some, refl}
+-- These proofs stand in specs since the ghost member `sound` of the disk is one of them, and such a member imports from nowhere else.
+use Rattle.std.specs.Prelude.{◌≡◌, ◌≢◌, ℕ, ◌+◌, ◌<◌, ◌==◌, Bool, true, false, List, [], ◌∷◌, length, Some, refl}
 use Rattle.std.proofs.Common.{subst, ⊎_elim, cond, arith, zero-add}
 use Rattle.std.proofs.lemmas.Option.{none-some}
 use Rattle.dm_disk_model.specs.File.{File, empty_file, synced_file}
-use Rattle.dm_disk_model.specs.Folder.{Names, Change, Created, Renamed, Removed, Folder, AreApart, EachPrefix, names_of}
+use Rattle.dm_disk_model.specs.Folder.{Names, Change, Created, Renamed, Removed, Folder, AreApart, names_of}
 use Rattle.dm_disk_model.specs.Disk.{DiskState, IsSoundDisk}
 use Rattle.dm_disk_model.specs.declared.place.Area.{Area}
 use Rattle.dm_disk_model.specs.declared.place.Area.TheVariants.{State, Files}
@@ -12,25 +13,8 @@ use Rattle.dm_disk_model.proofs.PendingNames.{each_more, each_now, each_synced, 
 use Rattle.dm_disk.specs.declared.call.Call.{Call}
 use Rattle.dm_disk.specs.declared.call.Act.{Act}
 use Rattle.dm_disk.specs.declared.call.Act.TheVariants.{Create, Write, Sync, Rename, Remove, SyncNames}
+use Rattle.dm_disk.specs.Made.{AreBelow, IsWithin, IsMade, IsMadeDisk}
 use Rattle.dm_disk.specs.Calls.{with_file, written_file, folder_after, in_folder, disk_from, disk_after, empty_folder, empty_disk}
-
--- the files that have names were made by calls before this number
-abbrev pub AreBelow : ℕ → Names → Type 0
-AreBelow bound names = (name : List ℕ) (number : ℕ) → names name ≡ Some number → number < bound
-
--- no file was synced longer than it is
-abbrev pub IsWithin : File → Type 0
-IsWithin file = file.synced ≤ length file.bytes
-
--- what holds of a folder before the call with this number
-pub record IsMade (bound : ℕ) (folder : Folder) : Type 0 where
-  pub below : EachPrefix folder (AreBelow bound)
-  pub apart : EachPrefix folder AreApart
-  pub within : (number : ℕ) → IsWithin (folder.file number)
-
-pub record IsMadeDisk (bound : ℕ) (disk : DiskState) : Type 0 where
-  pub state : IsMade bound disk.state
-  pub files : IsMade bound disk.files
 
 later : (bound : ℕ) (folder : Folder) → IsMade bound folder → IsMade (bound + 1) folder
 later bound folder made = record {

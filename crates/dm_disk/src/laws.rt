@@ -2,8 +2,9 @@
 ghost use Rattle.std.specs.Prelude.{◌≡◌, ◌≢◌, ◌↔◌, ℕ, List, Result};
 ghost use Rattle.dm_disk_model.specs.File.{IsWritten, IsTorn, IsSynced};
 ghost use Rattle.dm_disk_model.specs.Folder.{Folder, FolderLeaves, FileSteps, Changes, Creates, SyncsNames, Change};
-ghost use Rattle.dm_disk_model.specs.Disk.{DiskState, Image, MayLeave, now, reading, CreateStep, WriteStep, SyncStep, RenameStep, RemoveStep, SyncNamesStep};
+ghost use Rattle.dm_disk_model.specs.Disk.{DiskState, Image, IsSoundDisk, MayLeave, now, reading, CreateStep, WriteStep, SyncStep, RenameStep, RemoveStep, SyncNamesStep};
 ghost use Rattle.dm_disk_model.specs.Laws.{OtherStays, OthersLeaveSame};
+ghost use Rattle.dm_disk_model.specs.Beside.{LeftAsBefore, NeverShares};
 ghost use Rattle.dm_disk_model.specs.declared.place.Area.{Area as TheArea};
 ghost use Rattle.dm_disk_model.specs.declared.place.Place.{Place as ThePlace};
 ghost use Rattle.dm_disk_model.specs.declared.place.DiskFault.{DiskFault as TheFault};
@@ -43,4 +44,15 @@ pub fn names_leave_the_bytes()
     ensures change { (change : Change) (old new : Folder) → Changes change old new → (number : ℕ) → new.file number ≡ old.file number }
     ensures create { (name : List ℕ) (old new : Folder) → (made : Creates name old new) → (number : ℕ) → number ≢ made.number → new.file number ≡ old.file number }
     ensures sync { (old new : Folder) → SyncsNames old new → (number : ℕ) → new.file number ≡ old.file number }
+{}
+
+/// Under a name that a call doesn't name, a crash leaves among the user's files what it might have
+/// left there before. A write or a sync changes another file than any that the name may have.
+pub fn other_names_are_left()
+    ensures create { (name : List ℕ) (place : ThePlace) (result : Result (Unit {0}) TheFault) (old new : DiskState) → IsSoundDisk old → place.name ≢ name → CreateStep place result old new → LeftAsBefore name old.files new.files }
+    ensures write { (name : List ℕ) (place : ThePlace) (at : ℕ) (bytes : List ℕ) (result : Result (Unit {0}) TheFault) (old new : DiskState) → IsSoundDisk old → NeverShares name place.name old.files → WriteStep place at bytes result old new → LeftAsBefore name old.files new.files }
+    ensures sync { (name : List ℕ) (place : ThePlace) (result : Result (Unit {0}) TheFault) (old new : DiskState) → IsSoundDisk old → NeverShares name place.name old.files → SyncStep place result old new → LeftAsBefore name old.files new.files }
+    ensures rename { (name : List ℕ) (from to : ThePlace) (result : Result (Unit {0}) TheFault) (old new : DiskState) → IsSoundDisk old → from.name ≢ name → to.name ≢ name → RenameStep from to result old new → LeftAsBefore name old.files new.files }
+    ensures remove { (name : List ℕ) (place : ThePlace) (result : Result (Unit {0}) TheFault) (old new : DiskState) → IsSoundDisk old → place.name ≢ name → RemoveStep place result old new → LeftAsBefore name old.files new.files }
+    ensures sync_names { (name : List ℕ) (area : TheArea) (result : Result (Unit {0}) TheFault) (old new : DiskState) → IsSoundDisk old → SyncNamesStep area result old new → LeftAsBefore name old.files new.files }
 {}

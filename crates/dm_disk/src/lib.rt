@@ -17,10 +17,7 @@ pub use dm_disk_model::{Area, Disk, DiskFault, NameList, NamesFault, Place};
 pub use failing::{FailList, FailingCall};
 pub use image::Pick;
 pub use laws::{
-    calls_stay_in_their_folder, images_are_made_of_both, names_leave_the_bytes, reads_as_an_image,
-    writes_stay_in_their_file,
+    calls_stay_in_their_folder, images_are_made_of_both, names_leave_the_bytes,
+    other_names_are_left, reads_as_an_image, writes_stay_in_their_file,
 };
 pub use memory::MemoryDisk;
-
-#[cfg(test)]
-mod tests;

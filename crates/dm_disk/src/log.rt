@@ -3,7 +3,7 @@ ghost use Rattle.std.specs.Option.{option_map};
 ghost use Rattle.dm_disk_model.specs.Disk.{folder_in, bytes_at};
 ghost use Rattle.dm_disk_model.specs.Folder.{names_of, Lists};
 ghost use Rattle.dm_disk.specs.Calls.{disk_after, end_of, most_end};
-ghost use Rattle.dm_disk.specs.Index.{Tells};
+ghost use Rattle.dm_disk.specs.Index.{IsIndexOf};
 ghost use Rattle.dm_disk.specs.Look.{file_in};
 ghost use Rattle.dm_disk.specs.declared.call.Act.TheVariants as acts;
 
@@ -21,7 +21,7 @@ pub(crate) struct Log {
     pub calls: Vec<Call>,
     pub index: Index,
     ghost near: { most_end calls.items < 2 ^ 63 },
-    ghost told: { Tells (disk_after calls.items) index.entries.items },
+    ghost told: { IsIndexOf (disk_after calls.items) index.entries.items },
 }
 
 impl Log {

@@ -1,11 +1,9 @@
-ghost use Rattle.std.specs.Prelude.{◌≡◌, ◌↔◌, ◌≤◌, ◌+◌, ◌^◌, IsTrue};
-
 use crate::content::read_file;
 use crate::failing::FailList;
 use crate::image::{Pick, image_log};
 use crate::log::Log;
 use crate::meter::Meter;
-use dm_disk_model::{Area, Disk, DiskFault, NameList, NamesFault, Place};
+use dm_disk_model::{Area, Disk, DiskFault, NameList, NamesFault, Place, ends_far};
 use dm_types::{Listed, NoMemory};
 use std::alloc::Global;
 
@@ -61,20 +59,11 @@ impl MemoryDisk {
     }
 }
 
-/// Whether a range ends at 2^63 or above.
-fn ends_far(at: u64, count: usize) -> bool
-    ensures { IsTrue result ↔ (2 ^ 63 ≤ at + count) }
-{
-    at >= FAR || count as u64 >= FAR - at
-}
-
-const FAR: u64 = 1 << 63;
-
 impl Disk for MemoryDisk {
     ghost use Rattle.dm_disk.specs.SoundCalls.{sound_after};
     ghost use Rattle.std.specs.Prelude.{take};
-    ghost use Rattle.dm_disk.specs.Memory.{history_in, held_in, faults_in, far_in, fault_of, names_fault_of, IsInTurn, Grows, Writes};
-    ghost use Rattle.std.specs.Prelude.{◌≡◌, ◌+◌, ◌<◌, ◌≤◌, ◌^◌, length, IfOk, OnOk, IfSome};
+    ghost use Rattle.dm_disk.specs.Memory.{history_in, held_in, faults_in, far_in, fault_of, names_fault_of, IsInTurn, MayStarve, Writes};
+    ghost use Rattle.std.specs.Prelude.{◌≡◌, ◌+◌, ◌<◌, ◌≤◌, ◌^◌, length, IfOk, OnOk, OnErr, IfSome};
     ghost use Rattle.std.specs.Option.{option_map};
     ghost use Rattle.dm_types.specs.Faults.{HasCause};
     ghost use Rattle.dm_disk_model.specs.Disk.{now, folder_in, bytes_at, Stands, StandsNot, Next, CreateStep, WriteStep, SyncStep, RenameStep, RemoveStep, SyncNamesStep, Reads};
@@ -133,9 +122,10 @@ impl Disk for MemoryDisk {
     fn create(&mut self, place: &Place) -> Result<(), DiskFault>
         requires { StandsNot (held_in self.old) place.now }
         ensures done { Next (history_in self.old) (history_in self.new) (CreateStep place.now result) }
+        ensures kept { OnErr result (history_in self.new ≡ history_in self.old) }
         ensures cause { HasCause disk_kind (faults_in self.old) (faults_in self.new) result }
         ensures far { far_in self.new ≡ far_in self.old }
-        ensures turn { Grows self.old self.new (fault_of result) }
+        ensures turn { MayStarve self.old self.new (fault_of result) }
     {
         self.meter.begin()?;
         match self.log.create(place) {
@@ -147,6 +137,7 @@ impl Disk for MemoryDisk {
     fn write_at(&mut self, place: &Place, at: u64, bytes: &[u8]) -> Result<(), DiskFault>
         requires { Stands (held_in self.old) place.now }
         ensures done { Next (history_in self.old) (history_in self.new) (WriteStep place.now at bytes.now result) }
+        ensures kept { OnErr result (history_in self.new ≡ history_in self.old) }
         ensures near { OnOk result (at + length bytes.now < 2 ^ 63) }
         ensures cause { HasCause disk_kind (faults_in self.old) (faults_in self.new) result }
         ensures far { CountsFar (at + length bytes.now) (far_in self.old) (far_in self.new) (history_in self.old) (history_in self.new) result }
@@ -166,9 +157,10 @@ impl Disk for MemoryDisk {
     fn sync(&mut self, place: &Place) -> Result<(), DiskFault>
         requires { Stands (held_in self.old) place.now }
         ensures done { Next (history_in self.old) (history_in self.new) (SyncStep place.now result) }
+        ensures kept { OnErr result (history_in self.new ≡ history_in self.old) }
         ensures cause { HasCause disk_kind (faults_in self.old) (faults_in self.new) result }
         ensures far { far_in self.new ≡ far_in self.old }
-        ensures turn { Grows self.old self.new (fault_of result) }
+        ensures turn { MayStarve self.old self.new (fault_of result) }
     {
         self.meter.begin()?;
         let file = self.log.file_at(place);
@@ -182,10 +174,12 @@ impl Disk for MemoryDisk {
         requires stands { Stands (held_in self.old) from.now }
         requires one_area { to.now.area ≡ from.now.area }
         ensures done { Next (history_in self.old) (history_in self.new) (RenameStep from.now to.now result) }
+        ensures kept { OnErr result (history_in self.new ≡ history_in self.old) }
         ensures cause { HasCause disk_kind (faults_in self.old) (faults_in self.new) result }
         ensures far { far_in self.new ≡ far_in self.old }
-        ensures turn { Grows self.old self.new (fault_of result) }
+        ensures turn { MayStarve self.old self.new (fault_of result) }
     {
+        // What stood under the new name is replaced.
         self.meter.begin()?;
         match self.log.rename(from, to) {
             Ok(()) => Ok(()),
@@ -196,9 +190,10 @@ impl Disk for MemoryDisk {
     fn remove(&mut self, place: &Place) -> Result<(), DiskFault>
         requires { Stands (held_in self.old) place.now }
         ensures done { Next (history_in self.old) (history_in self.new) (RemoveStep place.now result) }
+        ensures kept { OnErr result (history_in self.new ≡ history_in self.old) }
         ensures cause { HasCause disk_kind (faults_in self.old) (faults_in self.new) result }
         ensures far { far_in self.new ≡ far_in self.old }
-        ensures turn { Grows self.old self.new (fault_of result) }
+        ensures turn { MayStarve self.old self.new (fault_of result) }
     {
         self.meter.begin()?;
         match self.log.remove(place) {
@@ -209,9 +204,10 @@ impl Disk for MemoryDisk {
 
     fn sync_names(&mut self, area: Area) -> Result<(), DiskFault>
         ensures done { Next (history_in self.old) (history_in self.new) (SyncNamesStep area result) }
+        ensures kept { OnErr result (history_in self.new ≡ history_in self.old) }
         ensures cause { HasCause disk_kind (faults_in self.old) (faults_in self.new) result }
         ensures far { far_in self.new ≡ far_in self.old }
-        ensures turn { Grows self.old self.new (fault_of result) }
+        ensures turn { MayStarve self.old self.new (fault_of result) }
     {
         self.meter.begin()?;
         match self.log.sync_names(area) {

@@ -1,9 +1,9 @@
 ghost use Rattle.std.specs.Prelude.{◌≡◌};
 ghost use Rattle.dm_types.specs.declared.kinds.DiskKind.TheVariants.{NoSpace};
-ghost use Rattle.dm_disk.specs.Meter.{new_meter, one_more, stopped, due, answer_of, counted, begun, starved_once, refused_once};
+ghost use Rattle.dm_disk.specs.Meter.{new_meter, stopped, due, answer_of, failed_once, begun, starved_once, refused_once};
 
 use crate::failing::{FailList, listed_kind};
-use dm_disk_model::DiskFault;
+use dm_disk_model::{DiskFault, KindCounts, one_more};
 use dm_types::DiskKind;
 
 /// Which calls are to fail, and the counts of the calls and of the faults so far. A count at
@@ -14,10 +14,7 @@ pub(crate) struct Meter {
     /// From this many calls on every call fails.
     pub stop_after: Option<u64>,
     pub made: u64,
-    pub failed: u64,
-    pub denied: u64,
-    pub no_space: u64,
-    pub name_too_long: u64,
+    pub faults: KindCounts,
     /// Writes whose range would have ended at 2^63 or above.
     pub far: u64,
     /// Calls that found no memory.
@@ -33,10 +30,7 @@ impl Meter {
             failing,
             stop_after,
             made: 0,
-            failed: 0,
-            denied: 0,
-            no_space: 0,
-            name_too_long: 0,
+            faults: KindCounts::new(),
             far: 0,
             starved: 0,
         }
@@ -75,7 +69,7 @@ impl Meter {
     }
 
     /// The fault of the next call, where it is to fail.
-    fn due(&self) -> Option<DiskKind>
+    pub fn due(&self) -> Option<DiskKind>
         ensures { result ≡ due self.now }
     {
         if self.is_stopped() {
@@ -96,20 +90,8 @@ impl Meter {
 
     fn fail(&mut self, kind: DiskKind) -> DiskFault
         ensures fault { result ≡ record { 0 = kind } }
-        ensures counts { self.new ≡ counted kind self.old }
+        ensures counts { self.new ≡ failed_once kind self.old }
     {
-        match kind {
-            DiskKind::Failed => self.failed = one_more(self.failed),
-            DiskKind::Denied => self.denied = one_more(self.denied),
-            DiskKind::NoSpace => self.no_space = one_more(self.no_space),
-            DiskKind::NameTooLong => self.name_too_long = one_more(self.name_too_long),
-        }
-        DiskFault(kind)
+        self.faults.fail(kind)
     }
-}
-
-fn one_more(count: u64) -> u64
-    ensures { result ≡ one_more count }
-{
-    count.saturating_add(1)
 }

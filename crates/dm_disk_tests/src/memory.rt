@@ -1,4 +1,4 @@
-use crate::*;
+use dm_disk::*;
 use dm_types::{DiskKind, Listed, Text};
 use std::alloc::Global;
 use std::test::Fail;

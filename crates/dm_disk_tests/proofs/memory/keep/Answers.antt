@@ -1,6 +1,6 @@
 use Rattle.dm_disk_model.proofs.Standing.{stands_told}
 use Rattle.dm_disk.specs.Memory.{history_in}
-use Rattle.dm_disk.proofs.tests.keep.Goals as goal
+use Rattle.dm_disk_tests.proofs.memory.keep.Goals as goal
 
 pub sync-requires : goal.sync-requires
 sync-requires c =

@@ -1,6 +1,6 @@
 use Rattle.dm_disk_model.proofs.Standing.{stands_not_told}
 use Rattle.dm_disk.specs.Memory.{history_in}
-use Rattle.dm_disk.proofs.tests.make.Goals as goal
+use Rattle.dm_disk_tests.proofs.memory.make.Goals as goal
 
 pub create-requires : goal.create-requires
 create-requires c =

@@ -1,6 +1,6 @@
 use Rattle.dm_disk_model.proofs.Standing.{stands_told}
 use Rattle.dm_disk.specs.Memory.{history_in}
-use Rattle.dm_disk.proofs.tests.read.Goals as goal
+use Rattle.dm_disk_tests.proofs.memory.read.Goals as goal
 
 pub read_at-requires : goal.read_at-requires
 read_at-requires c =

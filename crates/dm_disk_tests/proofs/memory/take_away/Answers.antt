@@ -1,6 +1,6 @@
 use Rattle.dm_disk_model.proofs.Standing.{stands_told}
 use Rattle.dm_disk.specs.Memory.{history_in}
-use Rattle.dm_disk.proofs.tests.take_away.Goals as goal
+use Rattle.dm_disk_tests.proofs.memory.take_away.Goals as goal
 
 pub remove-requires : goal.remove-requires
 remove-requires c =

@@ -1,6 +1,6 @@
 use Rattle.dm_disk_model.proofs.Standing.{stands_told}
 use Rattle.dm_disk.specs.Memory.{history_in}
-use Rattle.dm_disk.proofs.tests.write.Goals as goal
+use Rattle.dm_disk_tests.proofs.memory.write.Goals as goal
 
 pub write_at-requires : goal.write_at-requires
 write_at-requires c =

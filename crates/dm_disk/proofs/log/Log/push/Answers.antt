@@ -3,7 +3,7 @@ use Rattle.std.specs.Prelude.{Result, Ok, Err, OnErr}
 use Rattle.std.proofs.lemmas.Bool.{cond-true}
 use Rattle.dm_disk.specs.declared.call.Call.{Call}
 use Rattle.dm_disk.specs.Calls.{disk_after, most_end}
-use Rattle.dm_disk.specs.Index.{Tells}
+use Rattle.dm_disk.specs.Index.{IsIndexOf}
 use Rattle.dm_disk.proofs.Following.{tells_more}
 use Rattle.dm_disk.proofs.Replay.{most_end_push}
 use Rattle.dm_disk.proofs.log.Log.push.Goals as goal
@@ -27,6 +27,6 @@ invariant_of-self-2 c =
     let number : c.len.result ≡ length old = omega (arith, c.len.ensures, c.reserve.ensures.len, c.args.self.now.calls.ok.0) in
     record {
       near = omega (arith, grown, more, c.args.self.now.near, c.requires);
-      told = subst (λ (calls : List Call). Tells (disk_after calls) c.follow.new.self.entries.items) (sym pushed)
+      told = subst (λ (calls : List Call). IsIndexOf (disk_after calls) c.follow.new.self.entries.items) (sym pushed)
           (tells_more old c.args.call c.len.result c.args.self.now.index.entries.items c.follow.new.self.entries.items number c.in_ok-follow.ensures.ok c.args.self.now.told);
     }
