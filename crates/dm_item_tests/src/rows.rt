@@ -38,7 +38,9 @@ fn added(rt: &impl Abort, alloc: Global, id: u32, word: &[u8]) -> Entry {
     }
 }
 
-fn described(rt: &impl Abort, alloc: Global, id: u32, name: &[u8]) -> Entry {
+fn described(rt: &impl Abort, alloc: Global, id: u32, name: &[u8]) -> Entry
+    ensures { adds_item result ≡ false }
+{
     Entry::Described {
         id: ItemId(id),
         key: Key::Strong(text(rt, alloc, b"\"a\"")),
@@ -50,7 +52,9 @@ fn described(rt: &impl Abort, alloc: Global, id: u32, name: &[u8]) -> Entry {
 }
 
 /// An entry of each kind that names item 1.
-fn entry(rt: &impl Abort, alloc: Global, kind: u8) -> Entry {
+fn entry(rt: &impl Abort, alloc: Global, kind: u8) -> Entry
+    ensures { adds_item result ≡ false }
+{
     match kind {
         3 => described(rt, alloc, 1, b"a"),
         4 => progress(rt, alloc, 5, true),
@@ -59,7 +63,9 @@ fn entry(rt: &impl Abort, alloc: Global, kind: u8) -> Entry {
 }
 
 /// The kinds that hold no text and no slices.
-fn plain(kind: u8) -> Entry {
+fn plain(kind: u8) -> Entry
+    ensures { adds_item result ≡ false }
+{
     let id = ItemId(1);
     match kind {
         2 => began(1, 2, By::User),
@@ -87,14 +93,18 @@ fn plain(kind: u8) -> Entry {
 }
 
 /// Item 1 has this many bytes.
-fn progress(rt: &impl Abort, alloc: Global, got: u64, finished: bool) -> Entry {
+fn progress(rt: &impl Abort, alloc: Global, got: u64, finished: bool) -> Entry
+    ensures { adds_item result ≡ false }
+{
     Entry::Progress {
         id: ItemId(1),
         slices: slices(rt, alloc, got, finished),
     }
 }
 
-fn began(id: u32, attempt: u32, by: By) -> Entry {
+fn began(id: u32, attempt: u32, by: By) -> Entry
+    ensures { adds_item result ≡ false }
+{
     Entry::Began {
         id: ItemId(id),
         attempt: Attempt(attempt),
@@ -324,37 +334,14 @@ fn put(rt: &impl Abort, items: &mut Items, entry: &Entry) -> Result<(), ApplyFau
 }
 
 #[test]
-fn an_entry_is_made_ready_and_put(rt: HostRuntime) -> Result<(), Fail> {
-    let mut items = Items::new(rt.alloc(), 9)?;
-    assert_eq!(rt; take(&mut items, added(&rt, rt.alloc(), 1, b"w1")), Ok(()));
-    let described = Entry::Described {
-        id: ItemId(1),
-        key: Key::Once(ItemId(1), Attempt(1)),
-        last_address: text(&rt, rt.alloc(), b"http://h/b"),
-        total: Some(5),
-        name: text(&rt, rt.alloc(), b"a"),
-        modified: Text::new(rt.alloc()),
-    };
-    let early = put(&rt, &mut items, &described);
-    assert_eq!(rt; early, Err(ApplyFault::WrongPhase(Phase::Waiting)));
-    assert_eq!(rt; put(&rt, &mut items, &began(1, 1, By::User)), Ok(()));
-    assert_eq!(rt; put(&rt, &mut items, &described), Ok(()));
-    let bytes = Entry::Progress {
-        id: ItemId(1),
-        slices: slices(&rt, rt.alloc(), 3, false),
-    };
-    assert_eq!(rt; put(&rt, &mut items, &bytes), Ok(()));
-    let item = items.get(ItemId(1)).ok_or("item 1")?;
-    assert_eq!(rt; (item.attempt, item.total), (Attempt(1), Some(5)));
-    assert!(rt; item.slices.items() == slices(&rt, rt.alloc(), 3, false).items());
-    assert_eq!(rt;
-        put(&rt, &mut items, &Entry::Cancelled { id: ItemId(1) }),
-        Ok(())
-    );
-    assert_eq!(rt;
-        put(&rt, &mut items, &Entry::Removed { id: ItemId(1) }),
-        Ok(())
-    );
+fn entries_are_made_ready_and_put(rt: HostRuntime) -> Result<(), Fail> {
+    let mut items = running(&rt, rt.alloc());
+    for kind in [4, 9, 10, 12] {
+        let entry = entry(&rt, rt.alloc(), kind);
+        assert_eq!(rt; put(&rt, &mut items, &entry), Ok(()));
+    }
     assert_eq!(rt; items.count(), 0);
+    let gone = put(&rt, &mut items, &Entry::Asked { id: ItemId(1) });
+    assert_eq!(rt; gone, Err(ApplyFault::NoItem(ItemId(1))));
     Ok(())
 }

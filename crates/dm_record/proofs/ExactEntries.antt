@@ -16,7 +16,8 @@ use Rattle.dm_record.specs.declared.parts.Order.{Order}
 use Rattle.dm_record.specs.declared.parts.Course.{Course}
 use Rattle.dm_record.specs.declared.parts.Told.{Told}
 use Rattle.dm_record.specs.declared.parts.Kept.{Kept}
-use Rattle.dm_record.specs.Spelling.{number, text, optional, digest, key, slices, flag_byte, kind_of, fields_of, spelling_of}
+use Rattle.dm_types.specs.Kind.{kind_of}
+use Rattle.dm_record.specs.Spelling.{number, text, optional, digest, key, slices, flag_byte, fields_of, spelling_of}
 use Rattle.dm_record.specs.Limits.{IsBytes, AtMost, IsDigest, IsTag, IsKey, IsEntry}
 use Rattle.dm_record.specs.Reading.{Reading, made_by, number_at, text_at, digest_at, key_at, order_at, course_at, told_at, kept_at, make_added, make_began, make_described, make_progress, make_broke, make_restarted, make_finishing, make_done, make_reopened, make_restored, added_at, began_at, described_at, progress_at, broke_at, paused_at, cancelled_at, restarted_at, finishing_at, done_at, removed_at, archived_at, reopened_at, restored_at, asked_at, entry_at}
 use Rattle.dm_record.proofs.Exact.{Exact, Branch, made, next, tagged, respelled_by}

@@ -5,3 +5,4 @@ pub mod ExactEntries
 pub mod Turns
 pub mod Places
 pub mod Lengths
+pub mod Laid

@@ -2,6 +2,7 @@
 use Rattle.std.specs.Prelude.{ℕ, Bool, true, false, List, [], ◌∷◌, ◌++◌, length, Option, Some, None}
 use Rattle.std.specs.List.{flat_map}
 use Rattle.std.specs.Int.{Width, w16, w32, w64, to_be_bytes}
+use Rattle.dm_types.specs.Kind.{kind_of}
 use Rattle.dm_types.specs.Reason.{code_of}
 use Rattle.dm_types.specs.declared.entry.Entry.{Entry}
 use Rattle.dm_types.specs.declared.entry.Entry.TheVariants.{Added, Began, Described, Progress, Broke, Paused, Cancelled, Restarted, Finishing, Done, Removed, Archived, Reopened, Restored, Asked}
@@ -68,23 +69,6 @@ slice s = number w64 s.first ⌢ number w64 s.got ⌢ flag_byte s.finished ∷ [
 -- how many there are, in one byte, and each of them
 abbrev pub slices : List Slice → List ℕ
 slices each = length each ∷ flat_map slice each
-
-abbrev pub kind_of : Entry → ℕ
-kind_of (Added id word address wish stated at) = 1
-kind_of (Began id attempt by at) = 2
-kind_of (Described id k last_address total name modified) = 3
-kind_of (Progress id cover) = 4
-kind_of (Broke id r) = 5
-kind_of (Paused id) = 6
-kind_of (Cancelled id) = 7
-kind_of (Restarted id epoch because) = 8
-kind_of (Finishing id total) = 9
-kind_of (Done id have at) = 10
-kind_of (Removed id) = 11
-kind_of (Archived id) = 12
-kind_of (Reopened next at) = 13
-kind_of (Restored item) = 14
-kind_of (Asked id) = 15
 
 -- what was asked for
 abbrev pub order_fields : Item → List ℕ

@@ -9,7 +9,7 @@ use dm_types::{Attempt, By, Epoch, ItemId, Key, Phase, Reason, Slice, Slices, Te
 use std::alloc::Global;
 
 #[tactic(auto, unfolding(crate::specs::Reading::number_at, crate::specs::Reading::run_at))]
-pub fn read_u32(bytes: &[u8]) -> Result<(u32, &[u8]), Stop>
+pub(crate) fn read_u32(bytes: &[u8]) -> Result<(u32, &[u8]), Stop>
     ensures { Gives (λ x. (x.0, x.1.now)) result (number_at w32 bytes.now) }
 {
     if bytes.len() < 4 {
@@ -21,7 +21,7 @@ pub fn read_u32(bytes: &[u8]) -> Result<(u32, &[u8]), Stop>
 }
 
 #[tactic(auto, unfolding(crate::specs::Reading::number_at, crate::specs::Reading::run_at))]
-pub fn read_u64(bytes: &[u8]) -> Result<(u64, &[u8]), Stop>
+pub(crate) fn read_u64(bytes: &[u8]) -> Result<(u64, &[u8]), Stop>
     ensures { Gives (λ x. (x.0, x.1.now)) result (number_at w64 bytes.now) }
 {
     if bytes.len() < 8 {
@@ -65,7 +65,7 @@ fn read_length(limit: u16, bytes: &[u8]) -> Result<(u16, &[u8]), Stop>
 }
 
 #[tactic(auto, unfolding(crate::specs::Reading::text_at))]
-pub fn read_text(alloc: Global, limit: u16, bytes: &[u8]) -> Result<(Text, &[u8]), Stop>
+pub(crate) fn read_text(alloc: Global, limit: u16, bytes: &[u8]) -> Result<(Text, &[u8]), Stop>
     ensures { Gives (λ x. (x.0, x.1.now)) result (text_at limit bytes.now) }
 {
     let (length, rest) = read_length(limit, bytes)?;
@@ -77,7 +77,7 @@ pub fn read_text(alloc: Global, limit: u16, bytes: &[u8]) -> Result<(Text, &[u8]
 }
 
 #[tactic(auto, unfolding(crate::specs::Reading::digest_at))]
-pub fn read_digest(bytes: &[u8]) -> Result<([u8; 32], &[u8]), Stop>
+pub(crate) fn read_digest(bytes: &[u8]) -> Result<([u8; 32], &[u8]), Stop>
     ensures { Gives (λ x. (x.0, x.1.now)) result (digest_at bytes.now) }
 {
     let (front, rest) = read_run(32, bytes)?;
@@ -87,7 +87,7 @@ pub fn read_digest(bytes: &[u8]) -> Result<([u8; 32], &[u8]), Stop>
 }
 
 #[tactic(auto, unfolding(crate::specs::Reading::id_at))]
-pub fn read_id(bytes: &[u8]) -> Result<(ItemId, &[u8]), Stop>
+pub(crate) fn read_id(bytes: &[u8]) -> Result<(ItemId, &[u8]), Stop>
     ensures { Gives (λ x. (x.0, x.1.now)) result (id_at bytes.now) }
 {
     let (id, rest) = read_u32(bytes)?;
@@ -95,7 +95,7 @@ pub fn read_id(bytes: &[u8]) -> Result<(ItemId, &[u8]), Stop>
 }
 
 #[tactic(auto, unfolding(crate::specs::Reading::epoch_at))]
-pub fn read_epoch(bytes: &[u8]) -> Result<(Epoch, &[u8]), Stop>
+pub(crate) fn read_epoch(bytes: &[u8]) -> Result<(Epoch, &[u8]), Stop>
     ensures { Gives (λ x. (x.0, x.1.now)) result (epoch_at bytes.now) }
 {
     let (epoch, rest) = read_u32(bytes)?;
@@ -103,7 +103,7 @@ pub fn read_epoch(bytes: &[u8]) -> Result<(Epoch, &[u8]), Stop>
 }
 
 #[tactic(auto, unfolding(crate::specs::Reading::attempt_at))]
-pub fn read_attempt(bytes: &[u8]) -> Result<(Attempt, &[u8]), Stop>
+pub(crate) fn read_attempt(bytes: &[u8]) -> Result<(Attempt, &[u8]), Stop>
     ensures { Gives (λ x. (x.0, x.1.now)) result (attempt_at bytes.now) }
 {
     let (attempt, rest) = read_u32(bytes)?;
@@ -112,7 +112,7 @@ pub fn read_attempt(bytes: &[u8]) -> Result<(Attempt, &[u8]), Stop>
 
 /// One byte from `low` to `high`.
 #[tactic(auto, unfolding(crate::specs::Reading::coded_at))]
-pub fn read_within(low: u8, high: u8, bytes: &[u8]) -> Result<(u8, &[u8]), Stop>
+pub(crate) fn read_within(low: u8, high: u8, bytes: &[u8]) -> Result<(u8, &[u8]), Stop>
     ensures read { Gives (λ x. (x.0, x.1.now)) result (coded_at (within low high) bytes.now) }
     ensures within { IfOk result (λ x. (low ≤ x.0) × (x.0 ≤ high)) }
 {
@@ -124,7 +124,7 @@ pub fn read_within(low: u8, high: u8, bytes: &[u8]) -> Result<(u8, &[u8]), Stop>
 }
 
 #[tactic(auto, unfolding(crate::specs::Reading::coded_at))]
-pub fn read_flag(bytes: &[u8]) -> Result<(bool, &[u8]), Stop>
+pub(crate) fn read_flag(bytes: &[u8]) -> Result<(bool, &[u8]), Stop>
     ensures { Gives (λ x. (x.0, x.1.now)) result (coded_at flag_of bytes.now) }
 {
     match bytes {
@@ -136,7 +136,7 @@ pub fn read_flag(bytes: &[u8]) -> Result<(bool, &[u8]), Stop>
 }
 
 #[tactic(auto, unfolding(crate::specs::Reading::coded_at))]
-pub fn read_by(bytes: &[u8]) -> Result<(By, &[u8]), Stop>
+pub(crate) fn read_by(bytes: &[u8]) -> Result<(By, &[u8]), Stop>
     ensures { Gives (λ x. (x.0, x.1.now)) result (coded_at by_of bytes.now) }
 {
     match bytes {
@@ -168,7 +168,7 @@ fn read_code(bytes: &[u8]) -> Result<(Reason, &[u8]), Stop>
 }
 
 #[tactic(auto, unfolding(crate::specs::Reading::reason_at))]
-pub fn read_reason(bytes: &[u8]) -> Result<(Reason, &[u8]), Stop>
+pub(crate) fn read_reason(bytes: &[u8]) -> Result<(Reason, &[u8]), Stop>
     ensures { Gives (λ x. (x.0, x.1.now)) result (reason_at bytes.now) }
 {
     let (_, rest) = read_within(0, 0, bytes)?;
@@ -177,7 +177,7 @@ pub fn read_reason(bytes: &[u8]) -> Result<(Reason, &[u8]), Stop>
 }
 
 #[tactic(auto, unfolding(crate::specs::Reading::key_at))]
-pub fn read_key(alloc: Global, bytes: &[u8]) -> Result<(Key, &[u8]), Stop>
+pub(crate) fn read_key(alloc: Global, bytes: &[u8]) -> Result<(Key, &[u8]), Stop>
     ensures { Gives (λ x. (x.0, x.1.now)) result (key_at bytes.now) }
 {
     match bytes {
@@ -225,7 +225,7 @@ fn read_each(alloc: Global, count: u8, bytes: &[u8]) -> Result<(Slices, &[u8]), 
 }
 
 #[tactic(auto, unfolding(crate::specs::Reading::slices_at))]
-pub fn read_slices(alloc: Global, bytes: &[u8]) -> Result<(Slices, &[u8]), Stop>
+pub(crate) fn read_slices(alloc: Global, bytes: &[u8]) -> Result<(Slices, &[u8]), Stop>
     ensures { Gives (λ x. (x.0, x.1.now)) result (slices_at bytes.now) }
 {
     let (count, rest) = read_within(1, 64, bytes)?;
@@ -234,7 +234,7 @@ pub fn read_slices(alloc: Global, bytes: &[u8]) -> Result<(Slices, &[u8]), Stop>
 }
 
 #[tactic(auto, unfolding(crate::specs::Reading::optional_at))]
-pub fn read_stated_digest(bytes: &[u8]) -> Result<(Option<[u8; 32]>, &[u8]), Stop>
+pub(crate) fn read_stated_digest(bytes: &[u8]) -> Result<(Option<[u8; 32]>, &[u8]), Stop>
     ensures { Gives (λ x. (x.0, x.1.now)) result (optional_at digest_at bytes.now) }
 {
     match bytes {
@@ -249,7 +249,7 @@ pub fn read_stated_digest(bytes: &[u8]) -> Result<(Option<[u8; 32]>, &[u8]), Sto
 }
 
 #[tactic(auto, unfolding(crate::specs::Reading::optional_at))]
-pub fn read_known_total(bytes: &[u8]) -> Result<(Option<u64>, &[u8]), Stop>
+pub(crate) fn read_known_total(bytes: &[u8]) -> Result<(Option<u64>, &[u8]), Stop>
     ensures { Gives (λ x. (x.0, x.1.now)) result (optional_at (number_at w64) bytes.now) }
 {
     match bytes {
@@ -264,7 +264,7 @@ pub fn read_known_total(bytes: &[u8]) -> Result<(Option<u64>, &[u8]), Stop>
 }
 
 #[tactic(auto, unfolding(crate::specs::Reading::optional_at))]
-pub fn read_known_text(
+pub(crate) fn read_known_text(
     alloc: Global,
     limit: u16,
     bytes: &[u8],
@@ -283,7 +283,7 @@ pub fn read_known_text(
 }
 
 #[tactic(auto, unfolding(crate::specs::Reading::optional_at))]
-pub fn read_known_key(alloc: Global, bytes: &[u8]) -> Result<(Option<Key>, &[u8]), Stop>
+pub(crate) fn read_known_key(alloc: Global, bytes: &[u8]) -> Result<(Option<Key>, &[u8]), Stop>
     ensures { Gives (λ x. (x.0, x.1.now)) result (optional_at key_at bytes.now) }
 {
     match bytes {
@@ -331,7 +331,7 @@ fn read_interrupted(bytes: &[u8]) -> Result<(Phase, Option<Reason>, &[u8]), Stop
 
 /// A phase, and the reason that may stand behind it. An interrupted item has one.
 #[tactic(auto, unfolding(crate::specs::Reading::phase_at))]
-pub fn read_phase(bytes: &[u8]) -> Result<(Phase, Option<Reason>, &[u8]), Stop>
+pub(crate) fn read_phase(bytes: &[u8]) -> Result<(Phase, Option<Reason>, &[u8]), Stop>
     ensures { Gives (λ x. ((x.0, x.1), x.2.now)) result (phase_at bytes.now) }
 {
     match bytes {

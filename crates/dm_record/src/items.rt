@@ -136,7 +136,7 @@ fn item_of(
 }
 
 #[tactic(auto, unfolding(crate::specs::Reading::restored_at))]
-pub fn read_restored(alloc: Global, bytes: &[u8]) -> Result<(Entry, &[u8]), Stop>
+pub(crate) fn read_restored(alloc: Global, bytes: &[u8]) -> Result<(Entry, &[u8]), Stop>
     ensures { Gives (λ x. (x.0, x.1.now)) result (restored_at bytes.now) }
 {
     let (order, rest) = read_order(alloc, bytes)?;

@@ -12,7 +12,7 @@ use dm_types::Entry;
 use std::alloc::Global;
 
 #[tactic(auto, unfolding(crate::specs::Reading::added_at))]
-pub fn read_added(alloc: Global, bytes: &[u8]) -> Result<(Entry, &[u8]), Stop>
+pub(crate) fn read_added(alloc: Global, bytes: &[u8]) -> Result<(Entry, &[u8]), Stop>
     ensures { Gives (λ x. (x.0, x.1.now)) result (added_at bytes.now) }
 {
     let (id, rest) = read_id(bytes)?;
@@ -33,7 +33,7 @@ pub fn read_added(alloc: Global, bytes: &[u8]) -> Result<(Entry, &[u8]), Stop>
 }
 
 #[tactic(auto, unfolding(crate::specs::Reading::began_at))]
-pub fn read_began(bytes: &[u8]) -> Result<(Entry, &[u8]), Stop>
+pub(crate) fn read_began(bytes: &[u8]) -> Result<(Entry, &[u8]), Stop>
     ensures { Gives (λ x. (x.0, x.1.now)) result (began_at bytes.now) }
 {
     let (id, rest) = read_id(bytes)?;
@@ -50,7 +50,7 @@ pub fn read_began(bytes: &[u8]) -> Result<(Entry, &[u8]), Stop>
 }
 
 #[tactic(auto, unfolding(crate::specs::Reading::described_at))]
-pub fn read_described(alloc: Global, bytes: &[u8]) -> Result<(Entry, &[u8]), Stop>
+pub(crate) fn read_described(alloc: Global, bytes: &[u8]) -> Result<(Entry, &[u8]), Stop>
     ensures { Gives (λ x. (x.0, x.1.now)) result (described_at bytes.now) }
 {
     let (id, rest) = read_id(bytes)?;
@@ -71,7 +71,7 @@ pub fn read_described(alloc: Global, bytes: &[u8]) -> Result<(Entry, &[u8]), Sto
 }
 
 #[tactic(auto, unfolding(crate::specs::Reading::progress_at))]
-pub fn read_progress(alloc: Global, bytes: &[u8]) -> Result<(Entry, &[u8]), Stop>
+pub(crate) fn read_progress(alloc: Global, bytes: &[u8]) -> Result<(Entry, &[u8]), Stop>
     ensures { Gives (λ x. (x.0, x.1.now)) result (progress_at bytes.now) }
 {
     let (id, rest) = read_id(bytes)?;
@@ -80,7 +80,7 @@ pub fn read_progress(alloc: Global, bytes: &[u8]) -> Result<(Entry, &[u8]), Stop
 }
 
 #[tactic(auto, unfolding(crate::specs::Reading::broke_at))]
-pub fn read_broke(bytes: &[u8]) -> Result<(Entry, &[u8]), Stop>
+pub(crate) fn read_broke(bytes: &[u8]) -> Result<(Entry, &[u8]), Stop>
     ensures { Gives (λ x. (x.0, x.1.now)) result (broke_at bytes.now) }
 {
     let (id, rest) = read_id(bytes)?;
@@ -89,7 +89,7 @@ pub fn read_broke(bytes: &[u8]) -> Result<(Entry, &[u8]), Stop>
 }
 
 #[tactic(auto, unfolding(crate::specs::Reading::paused_at))]
-pub fn read_paused(bytes: &[u8]) -> Result<(Entry, &[u8]), Stop>
+pub(crate) fn read_paused(bytes: &[u8]) -> Result<(Entry, &[u8]), Stop>
     ensures { Gives (λ x. (x.0, x.1.now)) result (paused_at bytes.now) }
 {
     let (id, rest) = read_id(bytes)?;
@@ -97,7 +97,7 @@ pub fn read_paused(bytes: &[u8]) -> Result<(Entry, &[u8]), Stop>
 }
 
 #[tactic(auto, unfolding(crate::specs::Reading::cancelled_at))]
-pub fn read_cancelled(bytes: &[u8]) -> Result<(Entry, &[u8]), Stop>
+pub(crate) fn read_cancelled(bytes: &[u8]) -> Result<(Entry, &[u8]), Stop>
     ensures { Gives (λ x. (x.0, x.1.now)) result (cancelled_at bytes.now) }
 {
     let (id, rest) = read_id(bytes)?;
@@ -105,7 +105,7 @@ pub fn read_cancelled(bytes: &[u8]) -> Result<(Entry, &[u8]), Stop>
 }
 
 #[tactic(auto, unfolding(crate::specs::Reading::restarted_at))]
-pub fn read_restarted(bytes: &[u8]) -> Result<(Entry, &[u8]), Stop>
+pub(crate) fn read_restarted(bytes: &[u8]) -> Result<(Entry, &[u8]), Stop>
     ensures { Gives (λ x. (x.0, x.1.now)) result (restarted_at bytes.now) }
 {
     let (id, rest) = read_id(bytes)?;
@@ -115,7 +115,7 @@ pub fn read_restarted(bytes: &[u8]) -> Result<(Entry, &[u8]), Stop>
 }
 
 #[tactic(auto, unfolding(crate::specs::Reading::finishing_at))]
-pub fn read_finishing(bytes: &[u8]) -> Result<(Entry, &[u8]), Stop>
+pub(crate) fn read_finishing(bytes: &[u8]) -> Result<(Entry, &[u8]), Stop>
     ensures { Gives (λ x. (x.0, x.1.now)) result (finishing_at bytes.now) }
 {
     let (id, rest) = read_id(bytes)?;
@@ -124,7 +124,7 @@ pub fn read_finishing(bytes: &[u8]) -> Result<(Entry, &[u8]), Stop>
 }
 
 #[tactic(auto, unfolding(crate::specs::Reading::done_at))]
-pub fn read_done(bytes: &[u8]) -> Result<(Entry, &[u8]), Stop>
+pub(crate) fn read_done(bytes: &[u8]) -> Result<(Entry, &[u8]), Stop>
     ensures { Gives (λ x. (x.0, x.1.now)) result (done_at bytes.now) }
 {
     let (id, rest) = read_id(bytes)?;
@@ -134,7 +134,7 @@ pub fn read_done(bytes: &[u8]) -> Result<(Entry, &[u8]), Stop>
 }
 
 #[tactic(auto, unfolding(crate::specs::Reading::removed_at))]
-pub fn read_removed(bytes: &[u8]) -> Result<(Entry, &[u8]), Stop>
+pub(crate) fn read_removed(bytes: &[u8]) -> Result<(Entry, &[u8]), Stop>
     ensures { Gives (λ x. (x.0, x.1.now)) result (removed_at bytes.now) }
 {
     let (id, rest) = read_id(bytes)?;
@@ -142,7 +142,7 @@ pub fn read_removed(bytes: &[u8]) -> Result<(Entry, &[u8]), Stop>
 }
 
 #[tactic(auto, unfolding(crate::specs::Reading::archived_at))]
-pub fn read_archived(bytes: &[u8]) -> Result<(Entry, &[u8]), Stop>
+pub(crate) fn read_archived(bytes: &[u8]) -> Result<(Entry, &[u8]), Stop>
     ensures { Gives (λ x. (x.0, x.1.now)) result (archived_at bytes.now) }
 {
     let (id, rest) = read_id(bytes)?;
@@ -150,7 +150,7 @@ pub fn read_archived(bytes: &[u8]) -> Result<(Entry, &[u8]), Stop>
 }
 
 #[tactic(auto, unfolding(crate::specs::Reading::reopened_at))]
-pub fn read_reopened(bytes: &[u8]) -> Result<(Entry, &[u8]), Stop>
+pub(crate) fn read_reopened(bytes: &[u8]) -> Result<(Entry, &[u8]), Stop>
     ensures { Gives (λ x. (x.0, x.1.now)) result (reopened_at bytes.now) }
 {
     let (next, rest) = read_u32(bytes)?;
@@ -159,7 +159,7 @@ pub fn read_reopened(bytes: &[u8]) -> Result<(Entry, &[u8]), Stop>
 }
 
 #[tactic(auto, unfolding(crate::specs::Reading::asked_at))]
-pub fn read_asked(bytes: &[u8]) -> Result<(Entry, &[u8]), Stop>
+pub(crate) fn read_asked(bytes: &[u8]) -> Result<(Entry, &[u8]), Stop>
     ensures { Gives (λ x. (x.0, x.1.now)) result (asked_at bytes.now) }
 {
     let (id, rest) = read_id(bytes)?;

@@ -14,7 +14,4 @@ mod writer;
 pub use fault::RecordFault;
 pub use laws::{longest_spelling, one_spelling, three_ways};
 pub use reader::read_entry;
-pub use writer::{write_broke, write_entry};
-
-#[cfg(test)]
-mod tests;
+pub use writer::{write_broke, write_done, write_entry};

@@ -4,7 +4,7 @@ use dm_types::{Attempt, Epoch, ItemId, Key, Slices, Text};
 
 /// What was asked for.
 #[derive(Drop)]
-pub struct Order {
+pub(crate) struct Order {
     pub id: ItemId,
     pub word: Text,
     pub first_address: Text,
@@ -14,7 +14,7 @@ pub struct Order {
 
 /// How far it has come.
 #[derive(Clone, Copy)]
-pub struct Course {
+pub(crate) struct Course {
     pub epoch: Epoch,
     pub attempt: Attempt,
     pub autos: u32,
@@ -23,7 +23,7 @@ pub struct Course {
 
 /// What a reply told of the content.
 #[derive(Drop)]
-pub struct Told {
+pub(crate) struct Told {
     pub key: Option<Key>,
     pub last_address: Option<Text>,
     pub total: Option<u64>,
@@ -33,7 +33,7 @@ pub struct Told {
 
 /// What is there of the content.
 #[derive(Drop)]
-pub struct Kept {
+pub(crate) struct Kept {
     pub slices: Slices,
     pub have: Option<[u8; 32]>,
     pub at_ms: u64,

@@ -9,7 +9,7 @@ ghost use Rattle.dm_record.specs.Writing.{Adds};
 
 use dm_types::{Key, NoMemory, Reason, Slice, Slices, Text};
 
-pub fn put_byte(out: &mut Text, byte: u8) -> Result<(), NoMemory>
+pub(crate) fn put_byte(out: &mut Text, byte: u8) -> Result<(), NoMemory>
     ensures { Adds out.old out.new result (byte ∷ []) (byte < 256) }
 {
     out.push_bytes(&[byte])
@@ -23,20 +23,20 @@ fn put_u16(out: &mut Text, n: u16) -> Result<(), NoMemory>
 }
 
 #[tactic(auto, unfolding(crate::specs::Spelling::number))]
-pub fn put_u32(out: &mut Text, n: u32) -> Result<(), NoMemory>
+pub(crate) fn put_u32(out: &mut Text, n: u32) -> Result<(), NoMemory>
     ensures { Adds out.old out.new result (number w32 n) (n < 2 ^ 32) }
 {
     out.push_bytes(&n.to_be_bytes())
 }
 
 #[tactic(auto, unfolding(crate::specs::Spelling::number))]
-pub fn put_u64(out: &mut Text, n: u64) -> Result<(), NoMemory>
+pub(crate) fn put_u64(out: &mut Text, n: u64) -> Result<(), NoMemory>
     ensures { Adds out.old out.new result (number w64 n) (n < 2 ^ 64) }
 {
     out.push_bytes(&n.to_be_bytes())
 }
 
-pub fn put_text(out: &mut Text, field: &Text) -> Result<(), NoMemory>
+pub(crate) fn put_text(out: &mut Text, field: &Text) -> Result<(), NoMemory>
     requires { length field.now < 2 ^ 16 }
     ensures { Adds out.old out.new result (text field.now) (IsBytes field.now) }
 {
@@ -50,25 +50,25 @@ fn put_run(out: &mut Text, bytes: &[u8]) -> Result<(), NoMemory>
     out.push_bytes(bytes)
 }
 
-pub fn put_digest(out: &mut Text, bytes: &[u8; 32]) -> Result<(), NoMemory>
+pub(crate) fn put_digest(out: &mut Text, bytes: &[u8; 32]) -> Result<(), NoMemory>
     ensures { Adds out.old out.new result (digest bytes.now) (IsDigest bytes.now) }
 {
     put_run(out, bytes)
 }
 
-pub fn put_flag(out: &mut Text, flag: bool) -> Result<(), NoMemory>
+pub(crate) fn put_flag(out: &mut Text, flag: bool) -> Result<(), NoMemory>
     ensures { Adds out.old out.new result (flag_byte flag ∷ []) ⊤ }
 {
     put_byte(out, if flag { 1 } else { 0 })
 }
 
-pub fn put_reason(out: &mut Text, why: Reason) -> Result<(), NoMemory>
+pub(crate) fn put_reason(out: &mut Text, why: Reason) -> Result<(), NoMemory>
     ensures { Adds out.old out.new result (reason why) ⊤ }
 {
     put_u16(out, why.code())
 }
 
-pub fn put_key(out: &mut Text, field: &Key) -> Result<(), NoMemory>
+pub(crate) fn put_key(out: &mut Text, field: &Key) -> Result<(), NoMemory>
     requires { IsTag field.now }
     ensures { Adds out.old out.new result (key field.now) (IsKey field.now) }
 {
@@ -102,7 +102,7 @@ fn put_each(out: &mut Text, fields: &[Slice]) -> Result<(), NoMemory>
     Ok(())
 }
 
-pub fn put_slices(out: &mut Text, fields: &Slices) -> Result<(), NoMemory>
+pub(crate) fn put_slices(out: &mut Text, fields: &Slices) -> Result<(), NoMemory>
     requires { IsCount fields.now }
     ensures { Adds out.old out.new result (slices fields.now) (AllByRecursion IsSlice fields.now) }
 {
@@ -111,7 +111,7 @@ pub fn put_slices(out: &mut Text, fields: &Slices) -> Result<(), NoMemory>
     put_each(out, each)
 }
 
-pub fn put_stated_digest(out: &mut Text, field: &Option<[u8; 32]>) -> Result<(), NoMemory>
+pub(crate) fn put_stated_digest(out: &mut Text, field: &Option<[u8; 32]>) -> Result<(), NoMemory>
     ensures { Adds out.old out.new result (optional digest field.now) (IfSome field.now IsDigest) }
 {
     match field {
@@ -123,7 +123,7 @@ pub fn put_stated_digest(out: &mut Text, field: &Option<[u8; 32]>) -> Result<(),
     }
 }
 
-pub fn put_known_total(out: &mut Text, field: Option<u64>) -> Result<(), NoMemory>
+pub(crate) fn put_known_total(out: &mut Text, field: Option<u64>) -> Result<(), NoMemory>
     ensures { Adds out.old out.new result (optional (number w64) field) (IfSome field (λ n. n < 2 ^ 64)) }
 {
     match field {
@@ -135,7 +135,7 @@ pub fn put_known_total(out: &mut Text, field: Option<u64>) -> Result<(), NoMemor
     }
 }
 
-pub fn put_known_text(out: &mut Text, field: &Option<Text>) -> Result<(), NoMemory>
+pub(crate) fn put_known_text(out: &mut Text, field: &Option<Text>) -> Result<(), NoMemory>
     requires { IfSome field.now (λ bytes. length bytes < 2 ^ 16) }
     ensures { Adds out.old out.new result (optional text field.now) (IfSome field.now IsBytes) }
 {
@@ -148,7 +148,7 @@ pub fn put_known_text(out: &mut Text, field: &Option<Text>) -> Result<(), NoMemo
     }
 }
 
-pub fn put_known_key(out: &mut Text, field: &Option<Key>) -> Result<(), NoMemory>
+pub(crate) fn put_known_key(out: &mut Text, field: &Option<Key>) -> Result<(), NoMemory>
     requires { IfSome field.now IsTag }
     ensures { Adds out.old out.new result (optional key field.now) (IfSome field.now IsKey) }
 {
@@ -161,7 +161,7 @@ pub fn put_known_key(out: &mut Text, field: &Option<Key>) -> Result<(), NoMemory
     }
 }
 
-pub fn put_kept_reason(out: &mut Text, field: Option<Reason>) -> Result<(), NoMemory>
+pub(crate) fn put_kept_reason(out: &mut Text, field: Option<Reason>) -> Result<(), NoMemory>
     ensures { Adds out.old out.new result (optional reason field) ⊤ }
 {
     match field {

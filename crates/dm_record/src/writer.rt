@@ -1,7 +1,7 @@
 //! Entries, written as bytes.
 
 ghost use Rattle.std.specs.Prelude.{◌≡◌, ◌≤◌, ◌<◌, ◌^◌, length, IfOk, IfSome, ⊤};
-ghost use Rattle.dm_record.specs.Spelling.{phase_byte, order_fields, phase_fields, course_fields, told_fields, kept_fields, item_fields, kind_of, fields_of, spelling_of};
+ghost use Rattle.dm_record.specs.Spelling.{phase_byte, order_fields, phase_fields, course_fields, told_fields, kept_fields, item_fields, fields_of, spelling_of};
 ghost use Rattle.dm_record.specs.Limits.{IsBytes, IsDigest, IsSpellable, IsSpellableItem, IsTag, IsCount, AtMost, IsItem, IsInRange, IsEntry};
 ghost use Rattle.dm_record.specs.Writing.{Adds, AddsFields, IsOrder, IsCourse, IsTold, IsKept};
 
@@ -183,28 +183,6 @@ fn put_item(out: &mut Text, item: &Item) -> Result<(), NoMemory>
     put_kept(out, item)
 }
 
-fn kind_code(entry: &Entry) -> u8
-    ensures { result ≡ kind_of entry.now }
-{
-    match entry {
-        Entry::Added { .. } => 1,
-        Entry::Began { .. } => 2,
-        Entry::Described { .. } => 3,
-        Entry::Progress { .. } => 4,
-        Entry::Broke { .. } => 5,
-        Entry::Paused { .. } => 6,
-        Entry::Cancelled { .. } => 7,
-        Entry::Restarted { .. } => 8,
-        Entry::Finishing { .. } => 9,
-        Entry::Done { .. } => 10,
-        Entry::Removed { .. } => 11,
-        Entry::Archived { .. } => 12,
-        Entry::Reopened { .. } => 13,
-        Entry::Restored { .. } => 14,
-        Entry::Asked { .. } => 15,
-    }
-}
-
 fn put_fields(out: &mut Text, entry: &Entry) -> Result<(), NoMemory>
     requires { IsSpellable entry.now }
     ensures { AddsFields out.old out.new result entry.now }
@@ -253,7 +231,7 @@ fn bytes_of(alloc: Global, entry: &Entry) -> Result<Text, NoMemory>
     ensures entry { IfOk result (λ _. IsEntry entry.now) }
 {
     let mut out = Text::new(alloc);
-    put_byte(&mut out, kind_code(entry))?;
+    put_byte(&mut out, entry.kind())?;
     put_fields(&mut out, entry)?;
     Ok(out)
 }
@@ -278,4 +256,17 @@ pub fn write_broke(id: ItemId, reason: Reason) -> [u8; 7]
     let id = id.0.to_be_bytes();
     let code = reason.code().to_be_bytes();
     [5, id[0], id[1], id[2], id[3], code[0], code[1]]
+}
+
+/// The bytes of a `Done`. They take no memory, so that what is published is recorded in any case.
+#[tactic(auto, unfolding(crate::specs::Spelling::number))]
+pub fn write_done(id: ItemId, digest: &[u8; 32], at: u64) -> [u8; 45]
+    ensures bytes { result ≡ spelling_of (Entry.Done id digest.now at) }
+    ensures entry { IsEntry (Entry.Done id digest.now at) }
+{
+    let mut bytes = [10; 45];
+    bytes[1..5].copy_from_slice(&id.0.to_be_bytes());
+    bytes[5..37].copy_from_slice(digest);
+    bytes[37..].copy_from_slice(&at.to_be_bytes());
+    bytes
 }

@@ -1,7 +1,7 @@
 ghost use Rattle.std.specs.Prelude.{◌≡◌, length, IfOk};
 ghost use Rattle.dm_record.specs.Limits.{IsSpellable};
 
-use crate::*;
+use dm_record::{RecordFault, read_entry, write_broke, write_done, write_entry};
 use dm_types::{Attempt, Entry, Epoch, Item, ItemId, Phase, Reason, Slice, Slices, Text};
 use std::alloc::Global;
 use std::process::Abort;
@@ -189,4 +189,12 @@ fn bytes_may_follow_an_entry(rt: HostRuntime) -> Result<(), Fail> {
 fn a_broke_takes_no_memory(rt: HostRuntime) {
     let bytes = write_broke(ItemId(258), Reason::NoMemory);
     assert_eq!(rt; bytes, [5, 0, 0, 1, 2, 0, 0x3c]);
+}
+
+#[test]
+fn a_done_takes_no_memory(rt: HostRuntime) {
+    let mut digest = [1; 32];
+    digest[31] = 2;
+    let bytes = write_done(ItemId(1), &digest, 5);
+    assert_eq!(rt; bytes.as_slice(), ENTRIES[10]);
 }
