@@ -27,7 +27,7 @@ tell() {
     [ -t 2 ] && every=2
     while sleep "$every" >/dev/null 2>&1 && kill -0 $$ 2>/dev/null; do
         local last
-        last="dm: building ($((SECONDS - begun)) s), crates done: $(grep -ac '^== dm_' "$log"), $(grep -aE '^(== dm_|rt: |fn |crate |so far)' "$log" | tail -n 1 | cut -c 1-60)"
+        last="dm: building ($((SECONDS - begun)) s), crates done: $(grep -ac '^== dm_' "$log"), $(grep -aE '^(== dm_|rt: |fn |crate |so far)' "$log" | tail -n 1 | sed 's/^== //' | cut -c 1-60)"
         if [ -t 2 ]; then printf '\r\033[K%s' "$last" >&2; else printf '%s\n' "$last" >&2; fi
     done
 }
