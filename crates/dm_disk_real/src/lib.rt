@@ -11,6 +11,3 @@ mod syncs;
 
 pub use counts::Counts;
 pub use real::RealDisk;
-
-#[cfg(test)]
-mod tests;

@@ -1,55 +1,10 @@
-use crate::RealDisk;
+use crate::bench::{FAILED, Here, disk_in, file, link, new_folder, place, write};
 use dm_disk_model::{Area, Disk, DiskFault, NameList, NamesFault, Place};
-use dm_types::{DiskKind, Text};
-use std::alloc::Global;
-use std::os::unix::fs::symlink;
+use dm_disk_real::RealDisk;
+use dm_types::DiskKind;
+use std::fs;
 use std::rt::HostRuntime;
 use std::test::Fail;
-use std::{env, fs, process};
-
-type Here = RealDisk<HostRuntime>;
-
-/// A new folder of this process.
-fn new_folder(rt: HostRuntime, name: &str) -> Result<String, Fail> {
-    let above = env::temp_dir(&rt)?;
-    let id = process::id(rt.process());
-    let path = format!(in rt.alloc(); "{}/dm-disk-{id}-{name}", above.as_str())?;
-    fs::create_dir(&rt, path.as_str())?;
-    Ok(path)
-}
-
-fn disk_in(rt: HostRuntime, path: &str) -> Result<Here, Fail> {
-    let state = format!(in rt.alloc(); "{path}/state")?;
-    let files = format!(in rt.alloc(); "{path}/files")?;
-    match RealDisk::new(rt, rt.alloc(), state.as_str(), files.as_str()) {
-        Ok(disk) => Ok(disk),
-        Err(fault) => Err(fault)?,
-    }
-}
-
-fn place(alloc: Global, area: Area, name: &[u8]) -> Result<Place, Fail> {
-    let name = Text::from_bytes(alloc, name)?;
-    Ok(Place { area, name })
-}
-
-fn file(alloc: Global, name: &[u8]) -> Result<Place, Fail> {
-    place(alloc, Area::Files, name)
-}
-
-/// Makes a link among the files.
-fn link(rt: HostRuntime, path: &str, target: &str, name: &str) -> Result<(), Fail> {
-    let link = format!(in rt.alloc(); "{path}/files/{name}")?;
-    symlink(&rt, target, link.as_str())?;
-    Ok(())
-}
-
-fn write(disk: &mut Here, place: &Place) -> Result<(), DiskFault> {
-    disk.create(place)?;
-    disk.write_at(place, 0, b"hello")?;
-    disk.write_at(place, 7, b"world")?;
-    disk.write_at(place, 11, b"D")?;
-    disk.sync(place)
-}
 
 #[test]
 fn what_is_written_is_read(rt: HostRuntime) -> Result<(), Fail> {
@@ -71,6 +26,11 @@ fn what_is_written_is_read(rt: HostRuntime) -> Result<(), Fail> {
     Ok(())
 }
 
+fn length_behind(disk: &mut Here, part: &Place, at: u64) -> Result<Option<u64>, DiskFault> {
+    disk.write_at(part, at, b"")?;
+    disk.length(part)
+}
+
 #[test]
 fn an_empty_write_past_the_end_lengthens(rt: HostRuntime) -> Result<(), Fail> {
     let path = new_folder(rt, "lengthens")?;
@@ -78,15 +38,16 @@ fn an_empty_write_past_the_end_lengthens(rt: HostRuntime) -> Result<(), Fail> {
     let mut disk = disk_in(rt, path.as_str())?;
     write(&mut disk, &part)?;
     for (at, want) in [(3, 12), (12, 12), (14, 14)] {
-        disk.write_at(&part, at, b"")?;
-        assert!(rt; disk.length(&part)? == Some(want), "at {at}");
+        assert!(rt;
+            length_behind(&mut disk, &part, at)? == Some(want),
+            "at {at}"
+        );
     }
-    let mut buf = *b"....";
-    assert!(rt; disk.read_at(&part, 11, &mut buf)? == 3 && buf == *b"D\0\0.");
     fs::remove_dir_all(&rt, path.as_str())?;
     Ok(())
 }
 
+/// Makes a file, renames it, and looks for its old name.
 fn rename(disk: &mut Here, from: &Place, to: &Place) -> Result<Option<u64>, DiskFault> {
     write(disk, from)?;
     disk.rename(from, to)?;
@@ -120,7 +81,14 @@ fn a_rename_replaces_in_the_state_folder(rt: HostRuntime) -> Result<(), Fail> {
     Ok(())
 }
 
-const FAILED: DiskFault = DiskFault(DiskKind::Failed);
+/// Tries to rename onto a name that stands, and then takes that name away.
+fn is_kept(disk: &mut Here, part: &Place, name: &Place) -> Result<bool, DiskFault> {
+    let before = disk.length(name)?;
+    let is_refused = disk.rename(part, name) == Err(FAILED);
+    let is_same = disk.length(name)? == before && disk.length(part)? == Some(12);
+    disk.remove(name)?;
+    Ok(is_refused && is_same)
+}
 
 #[test]
 fn a_rename_among_the_files_replaces_nothing(rt: HostRuntime) -> Result<(), Fail> {
@@ -128,55 +96,65 @@ fn a_rename_among_the_files_replaces_nothing(rt: HostRuntime) -> Result<(), Fail
     let mut disk = disk_in(rt, path.as_str())?;
     let part = file(rt.alloc(), b"a part")?;
     let name = file(rt.alloc(), b"name")?;
+    write(&mut disk, &part)?;
     disk.create(&name)?;
-    assert!(rt; rename(&mut disk, &part, &name) == Err(FAILED));
-    assert!(rt; disk.length(&part)? == Some(12) && disk.length(&name)? == Some(0));
-    disk.remove(&name)?;
+    assert!(rt; is_kept(&mut disk, &part, &name)?);
     link(rt, path.as_str(), "nowhere", "name")?;
-    assert!(rt; disk.rename(&part, &name) == Err(FAILED));
-    disk.remove(&name)?;
+    assert!(rt; is_kept(&mut disk, &part, &name)?);
     disk.rename(&part, &name)?;
-    assert!(rt; disk.length(&part)?.is_none() && disk.length(&name)? == Some(12));
+    assert!(rt; disk.length(&name)? == Some(12));
     fs::remove_dir_all(&rt, path.as_str())?;
     Ok(())
+}
+
+/// A link of this length stands, can't be made or synced, and can be taken away.
+fn stands(disk: &mut Here, link: &Place, length: usize) -> Result<bool, DiskFault> {
+    let is_long = disk.length(link)? == Some(length as u64);
+    let is_free = disk.create(link).is_ok() || disk.sync(link).is_ok();
+    disk.remove(link)?;
+    Ok(is_long && !is_free && disk.length(link)?.is_none())
 }
 
 #[test]
 fn a_link_that_leads_nowhere_stands(rt: HostRuntime) -> Result<(), Fail> {
     let path = new_folder(rt, "dangling")?;
     let mut disk = disk_in(rt, path.as_str())?;
-    for target in ["nowhere", "a link", "/dev/null/nowhere"] {
-        let name = file(rt.alloc(), b"a link")?;
-        link(rt, path.as_str(), target, "a link")?;
-        assert!(rt;
-            disk.length(&name)? == Some(target.len() as u64),
-            "{target}"
-        );
-        assert!(rt; disk.create(&name) == Err(FAILED), "{target}");
-        disk.remove(&name)?;
-        assert!(rt; disk.length(&name)?.is_none(), "{target}");
-    }
     let name = file(rt.alloc(), b"a link")?;
-    link(rt, path.as_str(), "nowhere", "a link")?;
-    assert!(rt; disk.sync(&name) == Err(FAILED));
+    for target in ["nowhere", "a link", "/dev/null/nowhere"] {
+        link(rt, path.as_str(), target, "a link")?;
+        assert!(rt; stands(&mut disk, &name, target.len())?, "{target}");
+    }
     fs::remove_dir_all(&rt, path.as_str())?;
     Ok(())
+}
+
+/// Whether a second disk over this state folder is refused, with no other folder made.
+fn is_held(rt: HostRuntime, path: &str) -> Result<bool, Fail> {
+    let state = format!(in rt.alloc(); "{path}/state")?;
+    let others = format!(in rt.alloc(); "{path}/others")?;
+    let second = RealDisk::new(rt, rt.alloc(), state.as_str(), others.as_str());
+    let is_refused = matches!(second, Err(NamesFault::Disk(DiskKind::Failed)));
+    Ok(is_refused && !fs::exists(&rt, others.as_str())?)
 }
 
 #[test]
 fn one_disk_at_a_time_holds_the_folder(rt: HostRuntime) -> Result<(), Fail> {
     let path = new_folder(rt, "held")?;
     let first = disk_in(rt, path.as_str())?;
-    let state = format!(in rt.alloc(); "{}/state", path.as_str())?;
-    let others = format!(in rt.alloc(); "{}/others", path.as_str())?;
-    let second = RealDisk::new(rt, rt.alloc(), state.as_str(), others.as_str());
-    assert!(rt; matches!(second, Err(NamesFault::Disk(DiskKind::Failed))));
-    assert!(rt; !fs::exists(&rt, others.as_str())?);
+    assert!(rt; is_held(rt, path.as_str())?);
     drop(first);
-    let third = RealDisk::new(rt, rt.alloc(), state.as_str(), others.as_str());
-    assert!(rt; third.is_ok());
+    assert!(rt; !is_held(rt, path.as_str())?);
     fs::remove_dir_all(&rt, path.as_str())?;
     Ok(())
+}
+
+fn none_is_synced(disk: &mut Here, part: &Place, null: &Place) -> Result<bool, DiskFault> {
+    write(disk, part)?;
+    disk.sync_names(Area::Files)?;
+    let first = disk.sync(null) == Err(FAILED);
+    let later = disk.sync(part) == Err(FAILED) && disk.sync_names(Area::Files) == Err(FAILED);
+    disk.sync_names(Area::State)?;
+    Ok(first && later)
 }
 
 #[test]
@@ -185,16 +163,18 @@ fn after_a_sync_that_failed_none_is_trusted(rt: HostRuntime) -> Result<(), Fail>
     let mut disk = disk_in(rt, path.as_str())?;
     let part = file(rt.alloc(), b"a part")?;
     let null = file(rt.alloc(), b"null")?;
-    write(&mut disk, &part)?;
     link(rt, path.as_str(), "/dev/null", "null")?;
-    disk.sync_names(Area::Files)?;
-    assert!(rt; disk.sync(&null) == Err(FAILED));
-    assert!(rt; disk.sync(&part) == Err(FAILED));
-    assert!(rt; disk.sync_names(Area::Files) == Err(FAILED));
-    disk.sync_names(Area::State)?;
-    assert!(rt; disk.length(&part)? == Some(12));
+    assert!(rt; none_is_synced(&mut disk, &part, &null)?);
     fs::remove_dir_all(&rt, path.as_str())?;
     Ok(())
+}
+
+/// Writes what can't be synced, and then another file, whose sync is answered.
+fn sync_behind(disk: &mut Here, part: &Place, null: &Place) -> Result<(), DiskFault> {
+    write(disk, part)?;
+    disk.write_at(null, 0, b"x")?;
+    disk.write_at(part, 0, b"x")?;
+    disk.sync(part)
 }
 
 #[test]
@@ -203,17 +183,14 @@ fn a_written_file_is_synced_before_it_is_closed(rt: HostRuntime) -> Result<(), F
     let mut disk = disk_in(rt, path.as_str())?;
     let part = file(rt.alloc(), b"a part")?;
     let null = file(rt.alloc(), b"null")?;
-    write(&mut disk, &part)?;
     link(rt, path.as_str(), "/dev/null", "null")?;
-    disk.write_at(&null, 0, b"x")?;
-    disk.write_at(&part, 0, b"x")?;
-    assert!(rt; disk.sync(&part) == Err(FAILED));
+    assert!(rt; sync_behind(&mut disk, &part, &null) == Err(FAILED));
     fs::remove_dir_all(&rt, path.as_str())?;
     Ok(())
 }
 
 #[test]
-fn faults_have_their_kind(rt: HostRuntime) -> Result<(), Fail> {
+fn names_that_are_none_are_refused(rt: HostRuntime) -> Result<(), Fail> {
     let path = new_folder(rt, "faults")?;
     let mut disk = disk_in(rt, path.as_str())?;
     let names = [
@@ -235,12 +212,20 @@ fn faults_have_their_kind(rt: HostRuntime) -> Result<(), Fail> {
         };
         assert!(rt; disk.create(&place) == Err(DiskFault(want)), "{name:?}");
     }
-    // What no user may write to, and what has no room.
+    fs::remove_dir_all(&rt, path.as_str())?;
+    Ok(())
+}
+
+/// Writes through a link to what no user may write to, and to what has no room.
+#[test]
+fn faults_have_the_kind_of_the_system(rt: HostRuntime) -> Result<(), Fail> {
+    let path = new_folder(rt, "kinds")?;
+    let mut disk = disk_in(rt, path.as_str())?;
+    let name = file(rt.alloc(), b"a link")?;
     for (target, kind) in [
         ("/proc/sys/kernel/ostype", DiskKind::Denied),
         ("/dev/full", DiskKind::NoSpace),
     ] {
-        let name = file(rt.alloc(), b"a link")?;
         link(rt, path.as_str(), target, "a link")?;
         assert!(rt;
             disk.write_at(&name, 0, b"x") == Err(DiskFault(kind)),
