@@ -4,3 +4,6 @@ pub mod Plans
 pub mod Opened
 pub mod Filled
 pub mod Placed
+pub mod Sums
+pub mod Ends
+pub mod Rounds

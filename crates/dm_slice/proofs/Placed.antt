@@ -1,10 +1,10 @@
 -- Each part of a plan stands behind the slice with its index.
-use Rattle.std.proofs.Common.{◌≡◌, ℕ, zero, suc, ◌+◌, ◌-◌, ◌*◌, ◌/◌, ◌^◌, ◌<◌, ◌≤◌, List, [], ◌∷◌, ◌++◌, map, length, drop, Option, Some, refl, ap, sym, subst, ◌∙◌, arith, add-one, false}
+use Rattle.std.proofs.Common.{◌≡◌, ℕ, zero, suc, ◌+◌, ◌-◌, ◌/◌, ◌^◌, ◌<◌, ◌≤◌, List, [], ◌∷◌, ◌++◌, map, length, drop, Some, refl, ap, sym, subst, arith, add-one, false}
 use Rattle.dm_types.specs.declared.slices.Slice.{Slice}
 use Rattle.dm_slice.specs.Words.{end_of}
 use Rattle.dm_slice.specs.Cover.{IsCover, limit_at, limit_of, next_of, normal_of}
 use Rattle.dm_slice.specs.Plan.{AreAtSlices, IsChain, Run, all_of, cut_in, cuts, empty_at, groups, holes, numbered, opened, opened_of, plan_of, run, stop_of}
-use Rattle.dm_slice.proofs.Opened.{Behind, alone, cut, behind, chain-normal_of, chain-rest, cut_of, groups-cut, groups_behind, share-some, share_of}
+use Rattle.dm_slice.proofs.Opened.{alone, cut, behind, chain-normal_of, chain-rest, groups-cut, groups_behind, share-some, share_of}
 use Rattle.dm_slice.proofs.Filled.{runs_of}
 
 -- each run stands behind the slice at its number, and up to the next one

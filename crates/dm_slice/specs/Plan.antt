@@ -1,7 +1,7 @@
 -- Which parts of a content are asked for next: the holes of a normal cover, cut into parts.
-use Rattle.std.specs.Prelude.{◌≡◌, ℕ, zero, suc, ◌+◌, ◌-◌, ◌/◌, ◌<◌, ◌≤◌, ◌==◌, nat_lt, min, max, if◌then◌else◌, List, [], ◌∷◌, ◌++◌, length, map, drop, false, Some, ◌⊎◌}
+use Rattle.std.specs.Prelude.{◌≡◌, ℕ, zero, suc, ◌+◌, ◌-◌, ◌/◌, ◌<◌, ◌≤◌, ◌==◌, nat_lt, min, max, if◌then◌else◌, List, [], ◌∷◌, ◌++◌, length, map, drop, false, Option, Some, None, ◌^◌, ◌⊎◌}
 use Rattle.dm_types.specs.declared.slices.Slice.{Slice}
-use Rattle.dm_slice.specs.Words.{end_of, HasByte, IsApart}
+use Rattle.dm_slice.specs.Words.{end_of, HasByte, IsApart, cover_end}
 use Rattle.dm_slice.specs.Cover.{limit_at, next_of, normal_of}
 use Rattle.dm_slice.specs.declared.plan.Part.{Part}
 
@@ -80,6 +80,29 @@ opened_of cover total n least = opened cover (groups_of cover total n least)
 pub record IsPlanned (total n least : ℕ) (old new : List Slice) (plan : List Part) : Type 0 where
   pub parts : plan ≡ plan_of (normal_of (Some total) old) total n least
   pub slices : new ≡ opened_of (normal_of (Some total) old) total n least
+
+-- Where the total isn't known: one part, which continues the last slice up to the end of the greatest content; none where it ends there.
+abbrev pub open_part : List Slice → List Part
+open_part cover =
+    if nat_lt (cover_end cover) (2 ^ 40) then (record { index = length cover - 1; first = cover_end cover; end = 2 ^ 40 } ∷ []) else []
+
+-- the plan of a cover whose total isn't known, and the cover behind it
+pub record IsPlannedOpen (old new : List Slice) (plan : List Part) : Type 0 where
+  pub slices : new ≡ normal_of None old
+  pub parts : plan ≡ open_part new
+
+-- the parts of a round, and the cover behind its plan
+abbrev pub parts_by : Option ℕ → ℕ → ℕ → List Slice → List Part
+parts_by None n least cover = open_part (normal_of None cover)
+parts_by (Some total) n least cover = plan_of (normal_of (Some total) cover) total n least
+
+abbrev pub opened_by : Option ℕ → ℕ → ℕ → List Slice → List Slice
+opened_by None n least cover = normal_of None cover
+opened_by (Some total) n least cover = opened_of (normal_of (Some total) cover) total n least
+
+-- how many holes a cover has below the total
+abbrev pub gaps : ℕ → List Slice → ℕ
+gaps total cover = length (holes total (normal_of (Some total) cover))
 
 -- the place lies in one of the runs
 abbrev pub InRuns : List Run → ℕ → Type 0

@@ -19,9 +19,21 @@ Holds slices others = (place : ℕ) → HasByte others place → HasByte slices 
 abbrev pub Reaches : List Slice → ℕ → ℕ → Type 0
 Reaches slices from to = (place : ℕ) → from ≤ place → place < to → HasByte slices place
 
+-- the first place, from one up to another, that isn't there
+pub record IsGap (slices : List Slice) (from to place : ℕ) : Type 0 where
+  pub within : (from ≤ place) × (place < to)
+  pub missing : ¬ HasByte slices place
+  pub before : Reaches slices from place
+
 -- every byte below the total is there
 abbrev pub IsFull : ℕ → List Slice → Type 0
 IsFull total slices = (place : ℕ) → place < total → HasByte slices place
+
+-- the first place below the total that isn't there
+pub record IsFirstMissing (total : ℕ) (slices : List Slice) (place : ℕ) : Type 0 where
+  pub below : place < total
+  pub missing : ¬ HasByte slices place
+  pub before : IsFull place slices
 
 -- no slice ends above the bound
 abbrev pub IsWithin : ℕ → List Slice → Type 0

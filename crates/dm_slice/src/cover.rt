@@ -1,7 +1,7 @@
 ghost use Rattle.std.specs.Prelude.{◌≡◌, ◌+◌, ◌<◌, ◌≤◌, ◌↔◌, ◌⊎◌, ◌^◌, ◌++◌, ◌∷◌, [], false, IsTrue, None, Some, unwrap_or, IfSome, IfOk, OnOk, OnErr, MatchOption, length, map, ℕ};
 ghost use Rattle.dm_slice.specs.Words.{IsWithin};
-ghost use Rattle.dm_slice.specs.Plan.{AreAtSlices, FillsHoles, IsPlanned};
-ghost use Rattle.dm_slice.specs.Cover.{IsCover, IsCoverWithin, IsRising, joined, marked, normal_of};
+ghost use Rattle.dm_slice.specs.Plan.{AreAtSlices, FillsHoles, IsPlanned, IsPlannedOpen};
+ghost use Rattle.dm_slice.specs.Cover.{IsCover, IsCoverWithin, IsRising, SamePlaces, joined, marked, normal_of};
 
 use crate::plan::{Part, Plan, Rule};
 use crate::{plan, words};
@@ -36,7 +36,7 @@ impl Model for Cover {
 }
 
 impl Cover {
-    ghost use Rattle.dm_slice.specs.Words.{covered, end_of, HasByte, IsFull, IsNormal};
+    ghost use Rattle.dm_slice.specs.Words.{covered, end_of, HasByte, IsFirstMissing, IsFull, IsNormal};
     ghost use Rattle.dm_slice.specs.Cover.{IsAdded, IsNormalOf, grown, limit_at, next_of};
 
     /// A cover without a byte.
@@ -71,6 +71,18 @@ impl Cover {
         let mut slices = Vec::with_capacity(alloc, MOST_SLICES)?;
         slices.extend_from_slice(kept)?;
         Ok(Some(Cover { slices, alloc }))
+    }
+
+    /// Another cover with the same slices.
+    pub fn copy(&self) -> Result<Cover, NoMemory>
+        ensures { IfOk result (λ cover. cover ≡ self.now) }
+    {
+        let mut slices = Vec::with_capacity(self.alloc, MOST_SLICES)?;
+        slices.extend_from_slice(&self.slices)?;
+        Ok(Cover {
+            slices,
+            alloc: self.alloc,
+        })
     }
 
     /// How many bytes are there.
@@ -124,11 +136,32 @@ impl Cover {
         ensures plan { IfOk result (IsPlanned total n min self.old self.new) }
         ensures fills { IfOk result (FillsHoles total self.old) }
         ensures grows { IfOk result (AreAtSlices self.new) }
+        ensures places { SamePlaces self.new self.old }
         ensures err { OnErr result (self.new ≡ self.old) }
     {
         let (slices, parts) = planned(self.alloc, &self.slices, Rule { total, least: min }, n)?;
         self.slices = slices;
         Ok(Plan::from_vec(parts))
+    }
+
+    /// Makes the cover normal where no total is known, and gives the one part from its end up to 2^40,
+    /// which continues its last slice; none where that is its end.
+    pub fn plan_open(&mut self) -> Result<Plan, NoMemory>
+        ensures plan { IfOk result (IsPlannedOpen self.old self.new) }
+        ensures grows { IfOk result (AreAtSlices self.new) }
+        ensures places { SamePlaces self.new self.old }
+        ensures err { OnErr result (self.new ≡ self.old) }
+    {
+        let (slices, parts) = planned_open(self.alloc, &self.slices)?;
+        self.slices = slices;
+        Ok(Plan::from_vec(parts))
+    }
+
+    /// The first place below the total that isn't there; none where every one is.
+    pub fn first_missing(&self, total: u64) -> Option<u64>
+        ensures { MatchOption result (IsFull total self.now) (IsFirstMissing total self.now) }
+    {
+        words::first_missing(&self.slices, total)
     }
 
     /// Whether every byte below the total is there.
@@ -216,6 +249,7 @@ fn planned(
         IsPlanned rule.total n rule.least slices.now both.0.items both.1.items) }
     ensures fills { IfOk result (λ both. FillsHoles rule.total slices.now both.1.items) }
     ensures grows { IfOk result (λ both. AreAtSlices both.0.items both.1.items) }
+    ensures places { IfOk result (λ both. SamePlaces both.0.items slices.now) }
     ensures cover { IfOk result (λ both. IsCover both.0.items) }
     ensures most { IfOk result (λ both. length both.0.items ≤ 64) }
 {
@@ -232,4 +266,21 @@ fn planned(
         &mut parts,
     )?;
     Ok((opened, parts))
+}
+
+/// The normal list, and the part from its end.
+fn planned_open(alloc: Global, slices: &[Slice]) -> Result<(Vec<Slice>, Vec<Part>), NoMemory>
+    requires cover { IsCover slices.now }
+    requires most { length slices.now ≤ 64 }
+    ensures plan { IfOk result (λ both. IsPlannedOpen slices.now both.0.items both.1.items) }
+    ensures grows { IfOk result (λ both. AreAtSlices both.0.items both.1.items) }
+    ensures places { IfOk result (λ both. SamePlaces both.0.items slices.now) }
+    ensures cover { IfOk result (λ both. IsCover both.0.items) }
+    ensures most { IfOk result (λ both. length both.0.items ≤ 64) }
+{
+    let normal = normal_slices(alloc, slices, None)?;
+    let mut kept = Vec::with_capacity(alloc, MOST_SLICES)?;
+    kept.extend_from_slice(normal.items())?;
+    let parts = plan::open_parts(alloc, normal.items())?;
+    Ok((kept, parts))
 }

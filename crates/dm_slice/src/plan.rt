@@ -1,8 +1,11 @@
 ghost use Rattle.std.specs.Prelude.{◌≡◌, ◌+◌, ◌-◌, ◌<◌, ◌≤◌, ◌++◌, ◌∷◌, ◌^◌, [], ◌*◌, IfOk, OnOk, map, drop, length};
 ghost use Rattle.dm_slice.specs.Words.{IsWithin};
-ghost use Rattle.dm_slice.specs.Plan.{Cut, Filled, IsChain, Walked, holes, share, stop_of};
+ghost use Rattle.dm_slice.specs.Cover.{IsCover};
+ghost use Rattle.dm_slice.specs.Plan.{Cut, Filled, IsChain, Walked, holes, open_part, share, stop_of};
 
+use crate::{MOST_BYTES, cover_end};
 use dm_types::{Listed, NoMemory, Slice};
+use std::alloc::Global;
 
 /// What one request asks for: the places from `first` up to `end`.
 #[derive(Clone, Copy, Debug, PartialEq, Eq)]
@@ -21,6 +24,24 @@ pub type Plan = Listed<Part>;
 pub(crate) struct Rule {
     pub(crate) total: u64,
     pub(crate) least: u64,
+}
+
+/// The part from the end of a cover up to 2^40, where the total isn't known; none where that is its end.
+pub(crate) fn open_parts(alloc: Global, slices: &[Slice]) -> Result<Vec<Part>, NoMemory>
+    requires cover { IsCover slices.now }
+    requires most { length slices.now ≤ 64 }
+    ensures { IfOk result (λ parts. parts.items ≡ open_part slices.now) }
+{
+    let mut parts = Vec::new(alloc);
+    let first = cover_end(slices) as u64;
+    if first < MOST_BYTES {
+        parts.push(Part {
+            index: slices.len() as u32 - 1,
+            first,
+            end: MOST_BYTES,
+        })?;
+    }
+    Ok(parts)
 }
 
 /// Adds the slices with the empty ones that their holes' parts need, and the parts.

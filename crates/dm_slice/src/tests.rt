@@ -106,3 +106,19 @@ fn words_on_slices(rt: HostRuntime) -> Result<(), Fail> {
     assert_eq!(rt; cover_end(&slices), 10);
     Ok(())
 }
+
+#[test]
+fn a_cover_whose_total_is_not_known(rt: HostRuntime) -> Result<(), Fail> {
+    let mut open = cover(&rt, rt.alloc(), &[(0, 5)], 10);
+    let plan = open.plan_open()?;
+    let part = Part {
+        index: 0,
+        first: 5,
+        end: MOST_BYTES,
+    };
+    assert_eq!(rt; plan.count(), 1);
+    assert_eq!(rt; plan.get(0), Some(&part));
+    assert_eq!(rt; open.first_missing(10), Some(5));
+    assert_eq!(rt; open.copy()?.first_missing(5), None);
+    Ok(())
+}

@@ -1,5 +1,5 @@
 ghost use Rattle.std.specs.Prelude.{◌≡◌, ◌+◌, ◌<◌, ◌≤◌, ◌↔◌, ◌*◌, IsTrue, MatchOption, length, ◌^◌};
-ghost use Rattle.dm_slice.specs.Words.{end_of, HasByte, Holds, Reaches, IsFull, IsWithin, IsApart, IsMarked, IsNormal, is_last, covered, cover_end};
+ghost use Rattle.dm_slice.specs.Words.{end_of, HasByte, Holds, Reaches, IsFirstMissing, IsFull, IsGap, IsWithin, IsApart, IsMarked, IsNormal, is_last, covered, cover_end};
 
 use dm_types::Slice;
 
@@ -130,14 +130,31 @@ pub fn cover_end(slices: &[Slice]) -> u128
 fn reaches(slices: &[Slice], from: u128, to: u128) -> bool
     ensures { IsTrue result ↔ Reaches slices.now from to }
 {
+    first_gap(slices, from, to).is_none()
+}
+
+/// The first place below the total that isn't there, if there is one.
+pub(crate) fn first_missing(slices: &[Slice], total: u64) -> Option<u64>
+    ensures { MatchOption result (IsFull total slices.now) (IsFirstMissing total slices.now) }
+{
+    match first_gap(slices, 0, u128::from(total)) {
+        Some(place) => Some(place as u64),
+        None => None,
+    }
+}
+
+/// The first place, from one up to another, that isn't there.
+fn first_gap(slices: &[Slice], from: u128, to: u128) -> Option<u128>
+    ensures { MatchOption result (Reaches slices.now from to) (IsGap slices.now from to) }
+{
     let mut at = from;
     while at < to {
         match end_at(slices, at) {
             Some(end) => at = end,
-            None => return false,
+            None => return Some(at),
         }
     }
-    true
+    None
 }
 
 /// The end of the first slice that has this byte.

@@ -1,6 +1,9 @@
-use Rattle.std.proofs.Common.{◌-◌, length, Some, subst, sym, ap, ◌∙◌, rules, arith}
+use Rattle.std.proofs.Common.{◌-◌, List, length, Some, subst, sym, ap, ◌∙◌, rules, arith}
 use Rattle.dm_slice.proofs.Filled.{plan_of-fills}
 use Rattle.dm_slice.proofs.Placed.{plan_of-placed}
+use Rattle.dm_slice.proofs.Sums.{places-planned}
+use Rattle.dm_types.specs.declared.slices.Slice.{Slice}
+use Rattle.dm_slice.specs.Cover.{SamePlaces}
 use Rattle.dm_slice.specs.Words.{IsWithin}
 use Rattle.std.proofs.lemmas.Grind.{common_steps}
 use Rattle.dm_slice.specs.Plan.{FillsHoles, IsPlanned, IsChain}
@@ -38,3 +41,8 @@ pub returns-clause-grows : goal.returns-clause-grows
 returns-clause-grows c =
     let planned : IsPlanned c.args.rule.total c.args.n c.args.rule.least c.args.slices.now c.walk.new.opened.items c.walk.new.parts.items = first_of (search rules, grind (arith, common_steps)) in
     rw (planned.parts, planned.slices) (plan_of-placed c.args.rule.total c.args.n c.args.rule.least c.args.slices.now c.requires.cover c.requires.total (omega arith))
+
+pub returns-clause-places : goal.returns-clause-places
+returns-clause-places c =
+    let planned : IsPlanned c.args.rule.total c.args.n c.args.rule.least c.args.slices.now c.walk.new.opened.items c.walk.new.parts.items = first_of (search rules, grind (arith, common_steps)) in
+    subst (λ (x : List Slice). SamePlaces x c.args.slices.now) (sym planned.slices) (places-planned c.args.rule.total c.args.n c.args.rule.least c.args.slices.now c.requires.cover)

@@ -1,6 +1,6 @@
 use Rattle.std.proofs.Common.{◌-◌, ◌≤◌}
 use Rattle.dm_slice.specs.Words.{Reaches}
-use Rattle.dm_slice.proofs.words.reaches.Given as goal
+use Rattle.dm_slice.proofs.words.first_gap.Given as goal
 
 abbrev pub invariant-loop-at : goal.invariant-loop-at
 invariant-loop-at l = record { later : l.initial.at ≤ l.at; reached : Reaches l.slices l.initial.at l.at }
