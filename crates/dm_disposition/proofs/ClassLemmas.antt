@@ -1,7 +1,8 @@
 -- Which kinds of bytes exclude each other.
 use Rattle.std.proofs.Common.{◌≡◌, ℕ, Bool, true, false, eqb, ◌⊎◌, inl, inr, refl, sym, ap, ◌∙◌}
 use Rattle.std.proofs.lemmas.Bool.{both_ways, ne_eqb, eqb-true, or_cases, or_from}
-use Rattle.dm_disposition.specs.Bytes.{is_blank, is_token_byte, is_quoted_text}
+use Rattle.dm_types.specs.Bytes.{is_blank}
+use Rattle.dm_disposition.specs.Bytes.{is_token_byte, is_quoted_text}
 
 -- a byte of a kind is not one outside it
 pub not_this : (kind : ℕ → Bool) (b x : ℕ) → kind b ≡ true → kind x ≡ false → eqb b x ≡ false

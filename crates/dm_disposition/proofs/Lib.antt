@@ -4,4 +4,5 @@ pub mod SoundLemmas
 pub mod RunLemmas
 pub mod FieldLemmas
 pub mod NameLemmas
+pub mod Telling
 pub mod TextLemmas

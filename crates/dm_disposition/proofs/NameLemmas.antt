@@ -127,3 +127,18 @@ one_text ns name x y apart p q =
     ap (λ (n : Named). map to_ascii_lowercase n.name) a ∙ p.same ∙ sym q.same ∙ sym (ap (λ (n : Named). map to_ascii_lowercase n.name) b) in
     let at = one_place ns p.among.0 q.among.0 p.one apart p.among.1 q.among.1 same in
     p.is ∙ ap (λ (n : Named). n.text) (sym a ∙ ap (λ (k : ℕ). get_or ns k p.one) at ∙ b) ∙ sym q.is
+
+-- where no name stands twice, none repeats an earlier one
+apart_at : (before after : List Named) (again : Named) → AreApart (before ++ again ∷ after) → (k : ℕ) (n : Named) → k < length before → get_or before k n ≡ n → SameName n again → ⊥
+apart_at [] after again apart k n lt is same = omega (arith, lt)
+apart_at (m ∷ ms) after again apart zero n lt is same = each_at ms (apart.0)
+  where
+    each_at : (ns : List Named) → AllByRecursion (λ other. SameName m other → ⊥) (ns ++ again ∷ after) → ⊥
+    each_at [] each = each.0 (subst (λ (x : Named). SameName x again) (sym is) same)
+    each_at (x ∷ xs) each = each_at xs each.1
+apart_at (m ∷ ms) after again apart (suc k) n lt is same = apart_at ms after again apart.1 k n (omega (arith, lt)) is same
+
+pub apart_alone : (names : List Named) (place : ℕ) → AreApart names → IsFirstRepeat names place → ⊥
+apart_alone names place apart repeat =
+    let any = repeat.repeats in
+    apart_at repeat.before repeat.after repeat.again (subst AreApart repeat.parts apart) any.0 any.1 any.2 any.3 any.4

@@ -3,7 +3,8 @@ use Rattle.std.proofs.Common.{◌≡◌, ℕ, suc, ◌+◌, Bool, true, List, []
 use Rattle.std.specs.Prelude.{option_and_then}
 use Rattle.std.specs.List.{flat_map, AllByRecursion}
 use Rattle.std.proofs.lemmas.List.{append-nil, length-append}
-use Rattle.dm_disposition.specs.Bytes.{is_blank, is_token_byte, Each, IsToken}
+use Rattle.dm_types.specs.Bytes.{is_blank, Each}
+use Rattle.dm_disposition.specs.Bytes.{is_token_byte, IsToken}
 use Rattle.dm_disposition.specs.Grammar.{Mark, plain, escaped, mark_text, IsMark, Value, token, quoted, value_text, IsValue, Parameter, parameter_text, IsParameter, Piece, IsOptional, piece_text, IsPiece, Field, Spells}
 use Rattle.dm_disposition.specs.Names.{Named, named_from, named_of}
 use Rattle.dm_disposition.specs.Machine.{next, is_end, Notes, settled, taken, run, nothing}

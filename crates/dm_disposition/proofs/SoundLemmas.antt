@@ -4,7 +4,8 @@ use Rattle.std.specs.Prelude.{option_and_then}
 use Rattle.std.specs.List.{flat_map, AllByRecursion}
 use Rattle.std.proofs.lemmas.Bool.{eqb-true}
 use Rattle.std.proofs.lemmas.Option.{same_Some}
-use Rattle.dm_disposition.specs.Bytes.{is_blank, is_token_byte, is_quoted_text, is_escapable, Each}
+use Rattle.dm_types.specs.Bytes.{is_blank, Each}
+use Rattle.dm_disposition.specs.Bytes.{is_token_byte, is_quoted_text, is_escapable}
 use Rattle.dm_disposition.specs.Grammar.{Mark, plain, escaped, mark_text, IsMark, Value, token, quoted, value_text, IsValue, Parameter, Piece, optional_text, IsOptional, piece_text, IsPiece, Field, Spells}
 use Rattle.dm_disposition.specs.Machine.{between, equals, next, is_end, Notes, taken, run}
 use Rattle.dm_disposition.specs.declared.state.State.{State}

@@ -9,7 +9,8 @@ use Rattle.std.proofs.lemmas.Option.{same_Some, none-some}
 use Rattle.std.proofs.lemmas.List.{append-nil, append_cancel_right, take_more, at_drop_more, at_drop_all}
 use Rattle.std.proofs.lemmas.Str.{encodes-append}
 use Rattle.percent_encoding.specs.Percent.{percent_decode}
-use Rattle.dm_disposition.specs.Bytes.{is_token_byte, is_quoted_text, Each, Stops, Cuts, IsToken}
+use Rattle.dm_types.specs.Bytes.{Each, Stops, Cuts}
+use Rattle.dm_disposition.specs.Bytes.{is_token_byte, is_quoted_text, IsToken}
 use Rattle.dm_disposition.specs.Grammar.{Mark, plain, escaped, mark_text, byte_of, IsMark, Value, token, quoted, value_text, bytes_of, IsValue}
 use Rattle.dm_disposition.specs.Told.{is_attr_byte, is_no_quote, Char, attr, percent, char_text, IsChar, AreChars, ReadsAs, IsPlain, ExtParts, InCharset, MaybeInCharset, MaybeExtended}
 use Rattle.dm_disposition.specs.Machine.{unescaped, digits_after, digits_behind}

@@ -1,12 +1,9 @@
 -- Kinds of bytes in a Content-Disposition.
-use Rattle.std.specs.Prelude.{◌≡◌, ◌<◌, ℕ, Bool, false, ◌||◌, ◌==◌, IsTrue, List, [], ◌∷◌, ◌++◌, length, codes}
-use Rattle.std.specs.List.{AllByRecursion, list_any}
+use Rattle.std.specs.Prelude.{◌<◌, ℕ, Bool, ◌||◌, ◌==◌, List, length, codes}
+use Rattle.std.specs.List.{list_any}
 use Rattle.std.specs.Char.{is_ascii_alphanumeric}
 use Rattle.std.specs.Int.{is_in_range}
-
--- a blank is a space or a tab
-abbrev pub is_blank : ℕ → Bool
-is_blank b = b == 32 || b == 9
+use Rattle.dm_types.specs.Bytes.{Each}
 
 -- tchar (RFC 9110, section 5.6.2)
 abbrev pub is_token_byte : ℕ → Bool
@@ -19,21 +16,6 @@ is_quoted_text b = b == 9 || is_in_range 32 33 b || is_in_range 35 91 b || is_in
 -- what a backslash may stand before (quoted-pair, RFC 9110, section 5.6.4)
 abbrev pub is_escapable : ℕ → Bool
 is_escapable b = b == 9 || is_in_range 32 126 b || is_in_range 128 255 b
-
--- each byte is of the kind
-abbrev pub Each : (ℕ → Bool) → List ℕ → Type 0
-Each kind bytes = AllByRecursion (λ b. IsTrue (kind b)) bytes
-
--- the first byte, if there is one, isn't of the kind
-abbrev pub Stops : (ℕ → Bool) → List ℕ → Type 0
-Stops kind [] = Unit {0}
-Stops kind (b ∷ bytes) = kind b ≡ false
-
--- the bytes are a run of the kind, as long as it goes, and what follows
-pub record Cuts (kind : ℕ → Bool) (bytes run rest : List ℕ) : Type 0 where
-  pub parts : bytes ≡ run ++ rest
-  pub each : Each kind run
-  pub stops : Stops kind rest
 
 -- token = 1*tchar
 pub record IsToken (bytes : List ℕ) : Type 0 where

@@ -1,7 +1,8 @@
 -- The grammar of a Content-Disposition (RFC 6266, section 4.1), where white space is blanks alone and a parameter may be empty.
 use Rattle.std.specs.Prelude.{◌≡◌, ℕ, IsTrue, Option, Some, None, List, [], ◌∷◌, ◌++◌, map}
 use Rattle.std.specs.List.{flat_map, AllByRecursion}
-use Rattle.dm_disposition.specs.Bytes.{is_blank, is_quoted_text, is_escapable, Each, IsToken}
+use Rattle.dm_types.specs.Bytes.{is_blank, Each}
+use Rattle.dm_disposition.specs.Bytes.{is_quoted_text, is_escapable, IsToken}
 
 -- a byte between double quotes: as it stands, or behind a backslash
 pub data Mark : Type 0 where

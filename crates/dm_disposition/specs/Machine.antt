@@ -1,7 +1,8 @@
 -- The reader's own automaton. No public clause cites it.
 use Rattle.std.specs.Char.{is_ascii_hexdigit}
 use Rattle.std.specs.Prelude.{◌≡◌, zero, suc, ◌<◌, ◌⊎◌, length, take, slice_index, ℕ, ◌+◌, ◌==◌, Bool, true, false, if◌then◌else◌, Option, Some, None, option_and_then, List, [], ◌∷◌, ◌++◌}
-use Rattle.dm_disposition.specs.Bytes.{is_blank, is_token_byte, is_quoted_text, is_escapable}
+use Rattle.dm_types.specs.Bytes.{is_blank}
+use Rattle.dm_disposition.specs.Bytes.{is_token_byte, is_quoted_text, is_escapable}
 use Rattle.dm_disposition.specs.Names.{Named}
 use Rattle.dm_disposition.specs.Told.{is_attr_byte}
 use Rattle.dm_disposition.specs.declared.state.State.{State}

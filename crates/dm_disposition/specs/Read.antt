@@ -1,5 +1,5 @@
 -- What a reading of the value makes of the answer.
-use Rattle.std.specs.Prelude.{◌≡◌, ℕ, Result, Ok, Err, List}
+use Rattle.std.specs.Prelude.{◌≡◌, ℕ, Option, Some, None, Result, Ok, Err, List}
 use Rattle.dm_disposition.specs.Grammar.{Field, Spells}
 use Rattle.dm_disposition.specs.Names.{named_of, AreApart, IsFirstRepeat}
 use Rattle.dm_disposition.specs.Told.{PlainOf, ExtendedOf}
@@ -28,3 +28,15 @@ Judges value (Ok told) = (field : Field) × Spells field value
 Judges value (Err (NotGrammar n)) = IsStuckAt value n
 Judges value (Err (Repeated place)) = (field : Field) × Spells field value
 Judges value (Err NoMemory) = Unit {0}
+
+-- some field spells the value, and tells this
+pub record IsTold (value : List ℕ) (told : Disposition) : Type 0 where
+  pub field : Field
+  pub spells : Spells field value
+  pub answers : Answers field (Ok told)
+
+-- what is told by a value that may be missing: nothing where it is, or where no field spells it that tells something
+abbrev pub ToldBy : Option (List ℕ) → Option Disposition → Type 0
+ToldBy None told = told ≡ None
+ToldBy (Some value) (Some told) = IsTold value told
+ToldBy (Some value) None = (told : Disposition) → IsTold value told → ⊥

@@ -4,7 +4,8 @@ use Rattle.std.specs.List.{flat_map, AllByRecursion, list_any}
 use Rattle.std.specs.Char.{to_ascii_lowercase, is_ascii_alphanumeric, is_ascii_hexdigit}
 use Rattle.std.specs.Str.{IsUtf8, encode_utf8_all}
 use Rattle.percent_encoding.specs.Percent.{percent_decode}
-use Rattle.dm_disposition.specs.Bytes.{is_token_byte, Each}
+use Rattle.dm_types.specs.Bytes.{Each}
+use Rattle.dm_disposition.specs.Bytes.{is_token_byte}
 use Rattle.dm_disposition.specs.Grammar.{Value, bytes_of, value_text, IsValue}
 use Rattle.dm_disposition.specs.Names.{Named}
 

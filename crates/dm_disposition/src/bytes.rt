@@ -1,5 +1,6 @@
 ghost use Rattle.std.specs.Prelude.{◌≡◌};
-ghost use Rattle.dm_disposition.specs.Bytes.{is_blank, is_token_byte, is_quoted_text, is_escapable};
+ghost use Rattle.dm_types.specs.Bytes.{is_blank};
+ghost use Rattle.dm_disposition.specs.Bytes.{is_token_byte, is_quoted_text, is_escapable};
 
 /// A space or a tab.
 pub fn is_blank(byte: u8) -> bool

@@ -1,5 +1,6 @@
 ghost use Rattle.std.specs.Prelude.{◌≡◌, ◌↔◌, ◌∷◌, ◌++◌, IfNone, IfSome, IfOk, IsTrue, List, ℕ};
-ghost use Rattle.dm_disposition.specs.Bytes.{is_token_byte, Each, Cuts};
+ghost use Rattle.dm_types.specs.Bytes.{Each, Cuts};
+ghost use Rattle.dm_disposition.specs.Bytes.{is_token_byte};
 ghost use Rattle.dm_disposition.specs.Told.{is_attr_byte, is_no_quote, AreChars, ExtParts, MaybeInCharset, MaybeExtended};
 ghost use Rattle.dm_disposition.specs.Machine.{digits_after};
 

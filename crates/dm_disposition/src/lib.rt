@@ -1,8 +1,9 @@
 //! The Content-Disposition field (RFC 6266), read by its whole grammar.
 #![tactic(auto)]
 
+ghost use Rattle.std.specs.Prelude.{IfOk, option_copied};
 ghost use Rattle.dm_disposition.specs.Grammar.{Field, Spells};
-ghost use Rattle.dm_disposition.specs.Read.{Answers, Judges};
+ghost use Rattle.dm_disposition.specs.Read.{Answers, Judges, ToldBy};
 
 mod bytes;
 mod extended;
@@ -75,6 +76,25 @@ pub fn read_disposition(alloc: Global, value: &[u8]) -> Result<Disposition, Disp
         plain,
         extended,
     })
+}
+
+/// What a value tells that may be missing: nothing where it is, or where it is refused.
+#[tactic(auto, using(crate::proofs::Telling::tells_none))]
+pub fn disposition_of(
+    alloc: Global,
+    value: Option<&[u8]>,
+) -> Result<Option<Disposition>, dm_types::NoMemory>
+    ensures { IfOk result (ToldBy (option_copied value.entry)) }
+{
+    let Some(value) = value else {
+        return Ok(None);
+    };
+    match read_disposition(alloc, value) {
+        Ok(told) => Ok(Some(told)),
+        Err(DispFault::NoMemory) => Err(dm_types::NoMemory),
+        Err(DispFault::NotGrammar(_)) => Ok(None),
+        Err(DispFault::Repeated(_)) => Ok(None),
+    }
 }
 
 #[cfg(test)]

@@ -1,6 +1,7 @@
 use Rattle.std.proofs.Common.{sym, subst}
 use Rattle.std.proofs.lemmas.Bool.{both_ways}
-use Rattle.dm_disposition.specs.Bytes.{is_token_byte, Each}
+use Rattle.dm_types.specs.Bytes.{Each}
+use Rattle.dm_disposition.specs.Bytes.{is_token_byte}
 use Rattle.dm_disposition.specs.Told.{is_no_quote, AreChars}
 use Rattle.dm_disposition.proofs.TextLemmas.{no_quote_within, ext_first, ext_second}
 use Rattle.dm_disposition.proofs.extended.parts_of.Goals as goal
