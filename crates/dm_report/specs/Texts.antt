@@ -50,10 +50,13 @@ abbrev pub labelled : List ℕ → List ℕ → List ℕ
 labelled label value = field label ++ line (or_hyphen value)
 
 -- <id> <state> <covered> <total or ?> <name or ->
+abbrev pub row_of : ℕ → Phase → ℕ → Option ℕ → List ℕ → List ℕ
+row_of id phase got total name =
+    field (decimal id) ++ field (state_of phase) ++ field (decimal got) ++ field (number_or (codes "?") total) ++ line (or_hyphen name)
+
+-- the line of an item
 abbrev pub item_line_of : Item → List ℕ
-item_line_of item =
-    field (decimal item.id.0) ++ field (state_of item.phase) ++ field (decimal (covered item.slices))
-    ++ field (number_or (codes "?") item.total) ++ line (or_hyphen (text_of item.name))
+item_line_of item = row_of item.id.0 item.phase (covered item.slices) item.total (text_of item.name)
 
 -- which item it is, and how it is called
 abbrev pub naming_of : Item → List ℕ

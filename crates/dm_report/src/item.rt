@@ -1,10 +1,10 @@
 ghost use Rattle.std.specs.Prelude.{◌≡◌, IfOk};
-ghost use Rattle.dm_report.specs.Texts.{content_of, item_line_of, item_text_of, naming_of, progress_of};
+ghost use Rattle.dm_report.specs.Texts.{content_of, item_line_of, item_text_of, naming_of, progress_of, row_of};
 
 use crate::line::{add_field, add_last, add_line, add_number_field, add_number_line};
 use crate::values::{bytes_of, digest_text, number_or, state_text};
 use dm_slice::covered;
-use dm_types::{Item, NoMemory, Text};
+use dm_types::{Item, ItemId, NoMemory, Phase, Text};
 use std::alloc::Global;
 
 /// The line of an item, with its line feed: `<id> <state> <covered> <total or ?> <name or ->`.
@@ -12,12 +12,33 @@ use std::alloc::Global;
 pub fn item_line(alloc: Global, item: &Item) -> Result<Text, NoMemory>
     ensures { IfOk result (λ text. text ≡ item_line_of item.now) }
 {
+    row_line(
+        alloc,
+        item.id,
+        item.phase,
+        covered(item.slices.items()),
+        item.total,
+        bytes_of(&item.name),
+    )
+}
+
+/// The line of an item of which so much is told, with its line feed.
+pub fn row_line(
+    alloc: Global,
+    id: ItemId,
+    phase: Phase,
+    covered: u128,
+    total: Option<u64>,
+    name: &[u8],
+) -> Result<Text, NoMemory>
+    ensures { IfOk result (λ text. text ≡ row_of id.0 phase covered total name.now) }
+{
     let mut text = Text::new(alloc);
-    add_number_field(alloc, &mut text, u128::from(item.id.0))?;
-    add_field(&mut text, state_text(alloc, item.phase)?.bytes())?;
-    add_number_field(alloc, &mut text, covered(item.slices.items()))?;
-    add_field(&mut text, number_or(alloc, b"?", item.total)?.bytes())?;
-    add_last(&mut text, bytes_of(&item.name))?;
+    add_number_field(alloc, &mut text, u128::from(id.0))?;
+    add_field(&mut text, state_text(alloc, phase)?.bytes())?;
+    add_number_field(alloc, &mut text, covered)?;
+    add_field(&mut text, number_or(alloc, b"?", total)?.bytes())?;
+    add_last(&mut text, name)?;
     Ok(text)
 }
 

@@ -1,5 +1,5 @@
 use crate::*;
-use dm_types::{Attempt, Epoch, Item, ItemId, Phase, Reason, Slice, Slices, Text};
+use dm_types::{Attempt, DiskKind, Epoch, Item, ItemId, Phase, Reason, Slice, Slices, Text};
 use std::alloc::Global;
 use std::test::Fail;
 
@@ -120,5 +120,55 @@ fn text_with_everything(rt: HostRuntime) -> Result<(), Fail> {
           sha256 b94d27b9934d3e08a52e52d7da7dabfac484efe37a5380ee9088f7ace2efcde9\n"
             .as_slice()
     );
+    Ok(())
+}
+
+#[test]
+fn lines_of_verdicts(rt: HostRuntime) -> Result<(), Fail> {
+    let rows: &[(Verdict, u8, &[u8])] = &[
+        (Verdict::Done, 0, b""),
+        (
+            Verdict::Interrupted(Reason::ServerContentLengthMismatch),
+            1,
+            b"interrupted 38 SERVER_CONTENT_LENGTH_MISMATCH\n",
+        ),
+        (Verdict::BadWords, 2, b"bad words\n"),
+        (Verdict::BadAddress, 2, b"bad address\n"),
+        (Verdict::NoItem(ItemId(5)), 3, b"no item 5\n"),
+        (Verdict::WrongState(Phase::Paused), 4, b"state paused\n"),
+        (
+            Verdict::WrongState(Phase::Interrupted(Reason::ServerContentLengthMismatch)),
+            4,
+            b"state interrupted:38\n",
+        ),
+        (Verdict::Damaged(26), 5, b"journal damaged at 26\n"),
+        (Verdict::DiskFailed(DiskKind::Failed), 6, b"disk failed\n"),
+        (Verdict::DiskFailed(DiskKind::Denied), 6, b"disk denied\n"),
+        (
+            Verdict::DiskFailed(DiskKind::NoSpace),
+            6,
+            b"disk no-space\n",
+        ),
+        (
+            Verdict::DiskFailed(DiskKind::NameTooLong),
+            6,
+            b"disk name-too-long\n",
+        ),
+        (Verdict::ItemsFull(4096), 8, b"items full 4096\n"),
+        (Verdict::NoMemory, 9, b"no memory\n"),
+        (Verdict::OtherWord(ItemId(1)), 10, b"word of item 1\n"),
+    ];
+    let alloc = rt.alloc();
+    for (verdict, status, line) in rows {
+        let ending = Ending::new(alloc, *verdict, Text::from_bytes(alloc, b"out")?);
+        assert!(rt; ending.verdict() == *verdict);
+        assert_eq!(rt; ending.status(), *status);
+        assert_eq!(rt; ending.out_text(), b"out".as_slice());
+        assert_eq!(rt; ending.errs_text(), *line);
+        assert_eq!(rt; errs_line(alloc, *verdict)?.bytes(), *line);
+    }
+    let ending = Ending::fixed(alloc, Verdict::BadWords);
+    assert_eq!(rt; ending.out_text(), b"".as_slice());
+    assert_eq!(rt; ending.errs_text(), b"bad words\n".as_slice());
     Ok(())
 }
