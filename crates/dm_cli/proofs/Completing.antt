@@ -13,9 +13,10 @@ use Rattle.dm_cli.specs.declared.ending.Ending.{Ending}
 use Rattle.dm_cli.specs.declared.ending.Ending.TheVariants.{Complete, Interrupted, BadWords, BadAddress, DiskFailed, NoMemory}
 use Rattle.dm_cli.specs.Causes.{IsTaken, IsNetFault, Meets, MeetsContent, taken, short, unframed, overfull}
 use Rattle.dm_cli.specs.Get.{IsLast}
-use Rattle.dm_cli.specs.Run.{RunSays, NoneRose, Completes}
+use Rattle.dm_types.specs.Faults.{NoneRose}
+use Rattle.dm_cli.specs.Run.{RunSays, Completes}
 use Rattle.dm_cli.proofs.Apart.{not_head, not_short, not_unframed, not_overfull}
-use Rattle.dm_words.proofs.OneCommand.{one_get}
+use Rattle.dm_cli.proofs.Gets.{one_get}
 
 -- the last of two equal lists is one
 same_last : (xs ys : List Closed) (a b : Closed) → xs ++ a ∷ [] ≡ ys ++ b ∷ [] → a ≡ b

@@ -1,3 +1,4 @@
+pub mod Gets
 pub mod Apart
 pub mod Causing
 pub mod Completing

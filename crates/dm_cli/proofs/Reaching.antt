@@ -16,8 +16,9 @@ use Rattle.dm_disk_model.proofs.Reaching.{weaker}
 use Rattle.std.specs.Fmt.{decimal}
 use Rattle.std.specs.Char.{to_ascii_lowercase}
 use Rattle.std.proofs.lemmas.List.{map-append}
-use Rattle.dm_words.specs.Name.{IsName, fold_case, part_ending}
-use Rattle.dm_words.specs.Part.{part_name}
+use Rattle.dm_list.specs.FileName.{IsFileName}
+use Rattle.dm_types.specs.Name.{fold_case, part_ending}
+use Rattle.dm_types.specs.Name.{part_name}
 use Rattle.dm_reply.specs.Content.{Reader}
 use Rattle.dm_request.specs.Request.{request_of}
 use Rattle.dm_cli.specs.declared.ending.Ending.{Ending}
@@ -68,7 +69,7 @@ module _ (target : Place) (name : List ℕ) (first : Address) (before between af
     one_of disk never image leaves = elim (never image leaves) [ inl none ↦ inl none | inr whole ↦ inr (closed_of new_asked now, is_last, whole) ]
 
 -- a name of a file is never the part's
-pub apart_places : (name : List ℕ) (part target : Place) → IsName name → part ≡ the_part → target ≡ file_place name → part.name ≢ target.name
+pub apart_places : (name : List ℕ) (part target : Place) → IsFileName name → part ≡ the_part → target ≡ file_place name → part.name ≢ target.name
 apart_places name part target is_name is_part is_target same =
     let front = codes "Unconfirmed " ++ decimal 1 ++ codes "-" ++ decimal 1 in
     let named : name ≡ part_name 1 1 = sym (ap (λ (p : Place). p.name) is_target) ∙ sym same ∙ ap (λ (p : Place). p.name) is_part in

@@ -4,8 +4,8 @@ use Rattle.dm_types.specs.declared.kinds.DiskKind.{DiskKind}
 use Rattle.dm_edge.specs.declared.fault.NetFault.{NetFault}
 use Rattle.dm_edge.specs.Wire.{Closed}
 use Rattle.dm_disk_model.specs.Disk.{DiskState}
-use Rattle.dm_words.specs.Command.{IsGet}
-use Rattle.dm_words.proofs.OneCommand.{one_get}
+use Rattle.dm_cli.specs.Served.{IsGet}
+use Rattle.dm_cli.proofs.Gets.{one_get}
 use Rattle.dm_cli.specs.declared.ending.Ending.{Ending}
 use Rattle.dm_cli.specs.declared.ending.Ending.TheVariants.{Complete, Interrupted, BadWords, BadAddress, DiskFailed, NoMemory}
 use Rattle.dm_cli.specs.Get.{file_place}

@@ -18,7 +18,7 @@ use Rattle.dm_edge.specs.Begins.{BeginsContent, IsNinthInterim, ComesToBroke, mo
 use Rattle.dm_edge.specs.Reply.{IsShort, IsBadlyChunked, IsOverfull}
 use Rattle.dm_disk_model.specs.Folder.{names_of}
 use Rattle.dm_disk_model.specs.Disk.{DiskState}
-use Rattle.dm_words.specs.Name.{fold_case}
+use Rattle.dm_types.specs.Name.{fold_case}
 use Rattle.dm_cli.specs.Redirects.{most_redirects, HasRedirect, IsNowhere}
 
 -- the cause of a fault of the net

@@ -1,6 +1,6 @@
 -- What each ending prints, and its status.
 use Rattle.std.specs.Prelude.{ℕ, List, []}
-use Rattle.dm_words.specs.Printed.{disk_line, bad_words_line, bad_address_line, no_memory_line}
+use Rattle.dm_report.specs.Lines.{disk_line, bad_words_line, bad_address_line, no_memory_line}
 use Rattle.dm_cli.specs.declared.ending.Ending.{Ending}
 use Rattle.dm_cli.specs.declared.ending.Ending.TheVariants.{Complete, Interrupted, BadWords, BadAddress, DiskFailed, NoMemory}
 

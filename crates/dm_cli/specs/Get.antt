@@ -12,8 +12,9 @@ use Rattle.dm_disk_model.specs.declared.place.Area.TheVariants.{Files}
 use Rattle.dm_disk_model.specs.declared.place.Place.{Place}
 use Rattle.dm_disk_model.specs.Disk.{DiskState, Image, bytes_at, MayLeave, image_at}
 use Rattle.dm_disk_model.specs.Names.{LeavesJust}
-use Rattle.dm_words.specs.Part.{part_name}
-use Rattle.dm_words.specs.Printed.{complete_line, interrupted_line}
+use Rattle.dm_types.specs.Name.{part_name}
+use Rattle.dm_cli.specs.Lines.{complete_line}
+use Rattle.dm_report.specs.Lines.{interrupted_line}
 use Rattle.dm_request.specs.Request.{request_of}
 use Rattle.dm_cli.specs.Redirects.{most_redirects, asked_for, Led}
 use Rattle.dm_cli.specs.Causes.{IsTaken, IsNetFault, IsMetBy, Meets}

@@ -1,3 +1,5 @@
+pub mod Lines
+pub mod Served
 pub mod Causes
 pub mod Copying
 pub mod Ending

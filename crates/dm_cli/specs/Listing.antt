@@ -1,7 +1,7 @@
 -- What a run of a command of the list did.
 use Rattle.std.specs.Prelude.{◌≡◌, ◌⊎◌, ℕ, List, Option}
-use Rattle.dm_words.specs.Command.{IsGet}
-use Rattle.dm_words.specs.Listing.{Asks, Listing as Asked, Adds, Lists, Shows}
+use Rattle.dm_cli.specs.Served.{IsGet}
+use Rattle.dm_list.specs.Listed.{IsAsked as Asks, Listing as Asked, Adds, Lists, Shows}
 use Rattle.dm_list.specs.declared.ending.ListEnding.{ListEnding}
 use Rattle.dm_request.specs.Fault.{IsNoAddress}
 use Rattle.dm_cli.specs.declared.ending.Ending.{Ending}

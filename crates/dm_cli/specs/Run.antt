@@ -1,6 +1,6 @@
 -- What a run of the program did.
 use Rattle.std.specs.Prelude.{◌≡◌, ◌⊎◌, ℕ, List}
-use Rattle.dm_types.specs.Faults.{Rose}
+use Rattle.dm_types.specs.Faults.{NoneRose}
 use Rattle.dm_types.specs.declared.kinds.DiskKind.{DiskKind}
 use Rattle.dm_types.specs.declared.address.Address.{Address}
 use Rattle.dm_edge.specs.declared.fault.NetFault.{NetFault}
@@ -8,8 +8,10 @@ use Rattle.dm_edge.specs.Wire.{Closed}
 use Rattle.dm_edge.specs.Reply.{IsWhole}
 use Rattle.dm_edge.specs.declared.wanted.Wanted.TheVariants as asks
 use Rattle.dm_disk_model.specs.Disk.{DiskState}
-use Rattle.dm_words.specs.Command.{IsGet}
+use Rattle.dm_cli.specs.Served.{IsGet}
 use Rattle.dm_request.specs.Fault.{IsNoAddress, IsRead}
+use Rattle.dm_request.specs.declared.address.Unread.{Unread}
+use Rattle.dm_request.specs.declared.address.Unread.TheVariants as answers
 use Rattle.dm_cli.specs.declared.ending.Ending.{Ending}
 use Rattle.dm_cli.specs.declared.ending.Ending.TheVariants.{Complete, Interrupted, BadWords, BadAddress, DiskFailed, NoMemory}
 use Rattle.dm_cli.specs.Causes.{IsTaken}
@@ -42,6 +44,11 @@ pub record HasBadAddress (words : List (List ℕ)) : Type 0 where
   pub is : IsGet words name text
   pub none : IsNoAddress text
 
+-- where a text is refused, there is no address
+abbrev pub IsUnread : List ℕ → Unread → Type 0
+IsUnread text answers.Refused = IsNoAddress text
+IsUnread text answers.NoMemory = Unit {0}
+
 -- the words are a get of some address
 pub record IsSomeGet (words : List (List ℕ)) : Type 0 where
   pub name : List ℕ
@@ -64,10 +71,6 @@ RunSays words old new disk_before disk_after net_before net_after before after N
 RunSays words old new disk_before disk_after net_before net_after before after (Complete line) = RanGet words old new disk_before disk_after net_before net_after before after (Complete line)
 RunSays words old new disk_before disk_after net_before net_after before after (Interrupted reason line) = RanGet words old new disk_before disk_after net_before net_after before after (Interrupted reason line)
 RunSays words old new disk_before disk_after net_before net_after before after (DiskFailed kind) = RanGet words old new disk_before disk_after net_before net_after before after (DiskFailed kind)
-
--- no count rose
-abbrev pub NoneRose : {K : Type 0} → (K → ℕ) → (K → ℕ) → Type 0
-NoneRose {K} before after = (kind : K) → Rose (before kind) (after kind) → ⊥
 
 -- the file was brought, or memory was wanting
 abbrev pub IsCompleteOrMemory : Ending → Type 0

@@ -9,7 +9,8 @@ use Rattle.dm_disk_model.specs.Names.{LeavesJust}
 use Rattle.dm_policy.specs.Cause.{reason_of_cause}
 use Rattle.dm_policy.specs.declared.cause.Cause.{Cause}
 use Rattle.dm_policy.specs.declared.cause.Cause.TheVariants as cause
-use Rattle.dm_words.specs.Printed.{complete_line, interrupted_line}
+use Rattle.dm_cli.specs.Lines.{complete_line}
+use Rattle.dm_report.specs.Lines.{interrupted_line}
 use Rattle.dm_cli.specs.declared.copying.Stopped.{Stopped}
 use Rattle.dm_cli.specs.declared.copying.Stopped.TheVariants as stopped
 use Rattle.dm_cli.specs.declared.ending.Ending.{Ending}

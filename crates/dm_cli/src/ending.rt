@@ -1,8 +1,8 @@
 ghost use Rattle.std.specs.Prelude.{◌≡◌, IsTrue, ◌↔◌};
 ghost use Rattle.dm_cli.specs.Ending.{status_of, out_text, errs_text};
 
+use dm_report::{Verdict, fixed_line};
 use dm_types::{DiskKind, Reason, Text};
-use dm_words::{bad_address_line, bad_words_line, disk_line, no_memory_line};
 
 /// How a command ended.
 #[derive(Debug, Drop)]
@@ -57,10 +57,10 @@ impl Ending {
         match self {
             Ending::Complete(_) => b"",
             Ending::Interrupted(_, line) => line.bytes(),
-            Ending::BadWords => bad_words_line(),
-            Ending::BadAddress => bad_address_line(),
-            Ending::DiskFailed(kind) => disk_line(*kind),
-            Ending::NoMemory => no_memory_line(),
+            Ending::BadWords => fixed_line(Verdict::BadWords),
+            Ending::BadAddress => fixed_line(Verdict::BadAddress),
+            Ending::DiskFailed(kind) => fixed_line(Verdict::DiskFailed(*kind)),
+            Ending::NoMemory => fixed_line(Verdict::NoMemory),
         }
     }
 }

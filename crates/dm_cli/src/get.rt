@@ -8,7 +8,8 @@ ghost use Rattle.dm_disk_model.specs.Moments.{Throughout};
 ghost use Rattle.dm_edge.specs.Wire.{stream_of};
 ghost use Rattle.dm_edge.specs.declared.wanted.Wanted.TheVariants as asks;
 ghost use Rattle.dm_reply.specs.Content.{HasRead};
-ghost use Rattle.dm_words.specs.Name.{IsName, fold_case};
+ghost use Rattle.dm_list.specs.FileName.{IsFileName};
+ghost use Rattle.dm_types.specs.Name.{fold_case};
 ghost use Rattle.dm_request.specs.Request.{request_of};
 ghost use Rattle.dm_cli.specs.Causes.{IsTaken, OnWire};
 ghost use Rattle.dm_cli.specs.Get.{file_place, the_part, OnStream, GetSays, NeverPartial, NeverPartialOf, LeavesOthers};
@@ -17,13 +18,13 @@ ghost use Rattle.dm_cli.specs.Steps.{Interrupts, EndsBy, EndsStopped, FinishSays
 use crate::Ending;
 use crate::copying::{Stopped, copy_content};
 use crate::follow::{Aim, Answered, aim_at, follow};
+use crate::lines::{complete_line, interrupted_line};
 use dm_disk_model::{Area, Disk, NamesFault, Place};
 use dm_edge::{Net, Wire};
 use dm_part::{make, publish, settle};
 use dm_policy::{Cause, reason_of};
 use dm_reply::ReplyReader;
-use dm_types::{Address, Epoch, ItemId, NoMemory, Reason, Text};
-use dm_words::{complete_line, interrupted_line, part_name, same_folded};
+use dm_types::{Address, Epoch, ItemId, NoMemory, Reason, Text, part_name, same_folded};
 use std::alloc::Global;
 
 /// How many bytes of content are received and written at once.
@@ -281,7 +282,7 @@ pub fn get<D: Disk, N: Net>(
     name: &[u8],
     address: Address,
 ) -> Ending
-    requires name { IsName name.now }
+    requires name { IsFileName name.now }
     ensures says { D.tells → N.tells
         → GetSays (file_place name.now) name.now address (now (D.history disk.old)) (now (D.history disk.new)) (D.faults disk.old) (D.faults disk.new)
         (N.faults net.old) (N.faults net.new) (N.closed net.old) (N.closed net.new) result }

@@ -5,9 +5,11 @@ mod copying;
 mod ending;
 mod follow;
 mod get;
+mod lines;
 mod listing;
 mod printing;
 mod run;
+mod served;
 mod words;
 
 pub use ending::Ending;

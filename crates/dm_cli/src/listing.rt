@@ -3,7 +3,7 @@ ghost use Rattle.std.specs.Prelude.{◌≡◌, List};
 ghost use Rattle.dm_types.specs.Faults.{NoneFell};
 ghost use Rattle.dm_disk_model.specs.Disk.{now};
 ghost use Rattle.dm_disk_model.specs.Moments.{KeepsFiles, LeavesOnly};
-ghost use Rattle.dm_words.specs.Listing.{asked};
+ghost use Rattle.dm_list.specs.Listed.{asked};
 ghost use Rattle.dm_list.specs.Ending.{errs_text, HasShown, out_text, status_of};
 ghost use Rattle.dm_list.specs.Moments.{RunLeaves};
 ghost use Rattle.dm_list.specs.Run.{HasGoodWords, RunSays as ListSays};
@@ -14,8 +14,7 @@ use crate::Ran;
 use crate::printing::print_texts;
 use dm_disk_model::Disk;
 use dm_edge::{Origin, Sink};
-use dm_list::{ListRan, run_list};
-use dm_words::ListCommand;
+use dm_list::{ListCommand, ListRan, run_list};
 use std::alloc::Global;
 
 /// Does what the command says at this moment, in milliseconds since 1970, and prints it.

@@ -3,7 +3,7 @@ ghost use Rattle.dm_types.specs.Faults.{NoneFell};
 ghost use Rattle.dm_disk_model.specs.Disk.{now};
 ghost use Rattle.dm_disk_model.specs.Names.{NeverStands};
 ghost use Rattle.dm_disk_model.specs.Moments.{Throughout};
-ghost use Rattle.dm_words.specs.Command.{IsGet};
+ghost use Rattle.dm_cli.specs.Served.{IsGet};
 ghost use Rattle.dm_cli.specs.Get.{file_place, NeverPartialOf};
 ghost use Rattle.dm_cli.specs.Run.{RunSays, Completes, Explains, Refused, IsSomeGet};
 ghost use Rattle.dm_cli.specs.Print.{PrintsEnding};
@@ -11,11 +11,12 @@ ghost use Rattle.dm_cli.specs.Print.{PrintsEnding};
 use crate::Ending;
 use crate::get::get;
 use crate::printing::print;
+use crate::served::{read_address, read_get};
 use dm_disk_model::Disk;
 use dm_edge::{Clock, Net, Sink};
-use dm_request::{AddressFault, read_address};
+use dm_request::Unread;
 use dm_types::Text;
-use dm_words::{BadWords, read_command};
+use dm_words::BadWords;
 use std::alloc::Global;
 
 /// A run that is over: the status that the program ends with, and the disk that was handed in.
@@ -35,16 +36,14 @@ fn run<D: Disk, N: Net>(alloc: Global, words: &[Text], disk: &mut D, net: &mut N
     ensures disk_later { NoneFell (D.faults disk.old) (D.faults disk.new) }
     ensures net_later { NoneFell (N.faults net.old) (N.faults net.new) }
 {
-    let command = match read_command(words) {
+    let command = match read_get(words) {
         Ok(command) => command,
         Err(BadWords) => return Ending::BadWords,
     };
     match read_address(alloc, command.address) {
         Ok(address) => get(alloc, disk, net, command.name, address),
-        Err(AddressFault::NoMemory) => Ending::NoMemory,
-        Err(AddressFault::TooLong(_)) => Ending::BadAddress,
-        Err(AddressFault::NotUrl) => Ending::BadAddress,
-        Err(AddressFault::NotHttp) => Ending::BadAddress,
+        Err(Unread::Refused) => Ending::BadAddress,
+        Err(Unread::NoMemory) => Ending::NoMemory,
     }
 }
 
@@ -75,6 +74,7 @@ pub fn run_get<D: Disk, N: Net, C: Clock, S: Sink>(
     ensures net_later { NoneFell (N.faults net.old) (N.faults net.new) }
 {
     let mut disk = disk;
+    // A get keeps no list, so its moment goes nowhere. The clock is asked all the same, as by the other commands.
     let _moment = clock.now();
     let ending = run(alloc, words, &mut disk, net);
     let status = print(&ending, out, errs);
@@ -86,15 +86,13 @@ pub fn refused_get(alloc: Global, words: &[Text]) -> Option<Ending>
     ensures refused { IfSome result (Refused words.now) }
     ensures none { IfNone result (IsSomeGet words.now) }
 {
-    let command = match read_command(words) {
+    let command = match read_get(words) {
         Ok(command) => command,
         Err(BadWords) => return Some(Ending::BadWords),
     };
     match read_address(alloc, command.address) {
         Ok(_) => None,
-        Err(AddressFault::NoMemory) => None,
-        Err(AddressFault::TooLong(_)) => Some(Ending::BadAddress),
-        Err(AddressFault::NotUrl) => Some(Ending::BadAddress),
-        Err(AddressFault::NotHttp) => Some(Ending::BadAddress),
+        Err(Unread::Refused) => Some(Ending::BadAddress),
+        Err(Unread::NoMemory) => None,
     }
 }

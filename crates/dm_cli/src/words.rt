@@ -4,8 +4,8 @@ ghost use Rattle.dm_types.specs.Faults.{NoneFell};
 ghost use Rattle.dm_disk_model.specs.Disk.{now};
 ghost use Rattle.dm_disk_model.specs.Moments.{KeepsFiles, LeavesOnly, Throughout};
 ghost use Rattle.dm_disk_model.specs.Names.{NeverStands};
-ghost use Rattle.dm_words.specs.Command.{IsGet};
-ghost use Rattle.dm_words.specs.Listing.{Asks, Listing as Asked, asked};
+ghost use Rattle.dm_cli.specs.Served.{IsGet};
+ghost use Rattle.dm_list.specs.Listed.{IsAsked as Asks, Listing as Asked, asked};
 ghost use Rattle.dm_list.specs.Ending.{errs_text, HasShown, out_text, status_of};
 ghost use Rattle.dm_list.specs.Moments.{RunLeaves};
 ghost use Rattle.dm_list.specs.Run.{RunSays as ListSays};
@@ -16,12 +16,13 @@ ghost use Rattle.dm_cli.specs.Listing.{AsksNothing, ExplainsAt, IsSomeCommand, R
 
 use crate::listing::run_listing;
 use crate::run::{refused_get, run_get};
+use crate::served::read_address;
 use crate::{Ending, Ran};
 use dm_disk_model::Disk;
 use dm_edge::{Clock, Net, Sink};
-use dm_request::{AddressFault, read_address};
+use dm_list::{ListCommand, read_list_command};
+use dm_request::Unread;
 use dm_types::Text;
-use dm_words::{ListCommand, read_list_command};
 use std::alloc::Global;
 
 /// One run of the program: what the words ask is done, the disk is handed back, and what is printed
@@ -98,9 +99,7 @@ fn bad_address(alloc: Global, text: &[u8]) -> Option<Ending>
 {
     match read_address(alloc, text) {
         Ok(_) => None,
-        Err(AddressFault::NoMemory) => None,
-        Err(AddressFault::TooLong(_)) => Some(Ending::BadAddress),
-        Err(AddressFault::NotUrl) => Some(Ending::BadAddress),
-        Err(AddressFault::NotHttp) => Some(Ending::BadAddress),
+        Err(Unread::Refused) => Some(Ending::BadAddress),
+        Err(Unread::NoMemory) => None,
     }
 }

@@ -1,3 +1,4 @@
+pub mod Endings
 pub mod Looks
 pub mod Moments
 pub mod OneAnswer

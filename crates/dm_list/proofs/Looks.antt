@@ -13,7 +13,7 @@ use Rattle.dm_kept.specs.Room.{most_items}
 use Rattle.dm_kept.proofs.Images.{sits_kept}
 use Rattle.dm_desk.specs.Opening.{IsOpened, OpenLeaves, reopening}
 use Rattle.dm_desk.specs.View.{HoldsOf, View}
-use Rattle.dm_words.specs.Listing.{Listing as Asked}
+use Rattle.dm_list.specs.Listed.{Listing as Asked}
 use Rattle.dm_report.specs.Texts.{item_line_of}
 use Rattle.dm_list.specs.Run.{Did, IsHeld, Leaves, RunSays, list_of}
 use Rattle.dm_list.specs.Says.{ListSays, Says, ShowSays, ShowsItem, item_lines_of}

@@ -11,7 +11,7 @@ use Rattle.dm_kept.specs.Recovery.{Found, Kept, Through}
 use Rattle.dm_kept.specs.Spelled.{Records}
 use Rattle.dm_kept.proofs.Images.{kept_weaker, recovers_weaker}
 use Rattle.dm_desk.specs.Opening.{OpenLeaves, reopening}
-use Rattle.dm_words.specs.Listing.{Listing as Asked}
+use Rattle.dm_list.specs.Listed.{Listing as Asked}
 use Rattle.dm_list.specs.Moments.{LeavesSome, RunLeaves, entries_of}
 
 -- what is found through some entries is found through more of them

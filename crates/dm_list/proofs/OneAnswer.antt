@@ -11,8 +11,8 @@ use Rattle.dm_desk.specs.Add.{FirstWith, IsFull, IsKnown, IsNew, IsOther, added_
 use Rattle.dm_desk.specs.declared.order.Order.{Order}
 use Rattle.dm_request.specs.declared.address.AddressFault.{AddressFault}
 use Rattle.dm_report.specs.Texts.{item_line_of, item_text_of}
-use Rattle.dm_words.specs.Listing.{Listing as Asked, Adds, Lists, Shows}
-use Rattle.dm_words.specs.ListLines.{items_full_line, no_item_line, word_taken_line}
+use Rattle.dm_list.specs.Listed.{Listing as Asked, Adds, Lists, Shows}
+use Rattle.dm_report.specs.Lines.{items_full_line, no_item_line, word_taken_line}
 use Rattle.dm_list.specs.Says.{AddSays, IsAnswer, IsOneAnswer, Says, ShowsItem, Tells, item_lines_of, item_of, order_of}
 use Rattle.dm_list.specs.declared.ending.ListEnding.{ListEnding}
 use Rattle.dm_list.specs.declared.ending.ListEnding.TheVariants.{Said, BadAddress, NoItem, Damaged, DiskFailed, Full, NoMemory, OtherWord}

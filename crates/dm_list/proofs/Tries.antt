@@ -1,7 +1,6 @@
 -- What an order that was tried says, by what the desk answered.
 use Rattle.std.proofs.Common.{◌≡◌, ◌⊎◌, inl, inr, ℕ, ◌≤◌, Bool, true, false, cond, ◌==◌, List, [], ◌∷◌, ◌++◌, length, Option, Some, None, Result, Ok, Err, IfSome, refl, sym, ◌∙◌, ap, subst, arith}
 use Rattle.std.proofs.lemmas.Bool.Decides.{nat_tests}
-use Rattle.std.proofs.lemmas.Bool.{cases_lt}
 use Rattle.dm_types.specs.Faults.{HasCause}
 use Rattle.dm_types.specs.declared.address.Address.{Address}
 use Rattle.dm_types.specs.declared.item.Item.{Item}
@@ -25,15 +24,11 @@ use Rattle.dm_desk.specs.declared.order.Taken.{Taken}
 use Rattle.dm_desk.specs.declared.order.Taken.TheVariants.{New, Same}
 use Rattle.dm_desk.specs.declared.fault.DeskFault.{DeskFault}
 use Rattle.dm_desk.specs.declared.fault.DeskFault.TheVariants as faults
-use Rattle.dm_request.specs.Fault.{IsRead}
-use Rattle.dm_request.specs.Reading.{addressed, most}
 use Rattle.dm_request.specs.declared.address.AddressFault.{AddressFault}
-use Rattle.dm_request.specs.declared.address.AddressFault.TheVariants.{TooLong}
-use Rattle.dm_request.proofs.ReadingLemmas.{too_long}
 use Rattle.dm_report.specs.Texts.{item_line_of}
-use Rattle.dm_words.specs.Listing.{Adds as AsksAdd, IsWord}
-use Rattle.dm_words.specs.Name.{IsName}
-use Rattle.dm_words.specs.ListLines.{items_full_line, word_taken_line}
+use Rattle.dm_list.specs.Listed.{Adds as AsksAdd}
+use Rattle.dm_words.specs.Values.{IsName, IsWord}
+use Rattle.dm_report.specs.Lines.{items_full_line, word_taken_line}
 use Rattle.dm_list.specs.Ending.{HasShown, Shows}
 use Rattle.dm_list.specs.Moments.{RunLeaves, adding, entries_of}
 use Rattle.dm_list.specs.Run.{Did, IsGoodItem, IsHeld, Judges, RunSays}
@@ -197,27 +192,18 @@ module _ {D O : Type 0} (tells : Type 0) (clock : D → Clock) (old new : View D
     pub order_shown : (result : Result Taken DeskFault) (ending : ListEnding) → AddAnswers old new order at result → AddEnds new.items.items result ending → HasCause desk_kind before after result → HasShown before after ending
     order_shown result ending answers ends cause = record { later = cause.later; cause = shows_by result ending answers ends cause }
 
--- an address that was read has at most so many bytes
-pub address_short : (address : Address) → IsRead address.text address → length address.text ≤ 4096
-address_short address reads = elim (cases_lt most (length address.text)) [
-  | inl long ↦ absurd (refused address (sym (ap addressed (too_long None address.text long)) ∙ reads))
-  | inr short ↦ short
-] where
-  refused : (a : Address) → Err (TooLong (length address.text)) ≡ Ok a → ⊥
-  refused a is = absurd cc
-
 word_short : (word : Option (List ℕ)) → IfSome word IsWord → length (or_empty word) ≤ 64
 word_short None good = omega arith
 word_short (Some word) good = good.short
 
 name_short : (name : Option (List ℕ)) → IfSome name IsName → length (or_empty name) ≤ 255
 name_short None good = omega arith
-name_short (Some name) good = let short = good.short in omega arith
+name_short (Some name) good = good.short
 
 -- an order of a good word, a good name and an address that was read keeps its limits
-pub order_fits : (word name digest : Option (List ℕ)) (address : Address) (order : Order) → IsGoodItem word name → IsRead address.text address → order ≡ order_of word name digest address → IsOrder order
-order_fits word name digest address order good reads is =
-    subst IsOrder (sym is) (record { word = word_short word good.word_is; address = address_short address reads; wish = name_short name good.name_is })
+pub order_fits : (word name digest : Option (List ℕ)) (address : Address) (order : Order) → IsGoodItem word name → length address.text ≤ 4096 → order ≡ order_of word name digest address → IsOrder order
+order_fits word name digest address order good short is =
+    subst IsOrder (sym is) (record { word = word_short word good.word_is; address = short; wish = name_short name good.name_is })
 
 module _ {D O : Type 0} (tells : Type 0) (clock : D → Clock) (start : Clock) (old new : View D O) (order : Order) (at : ℕ) (word name digest : Option (List ℕ)) (text : List ℕ) (is : IsOrderOf word name digest text order)
     (opened : tells → IsOpened start most_items at (HoldsOf clock old)) (limit : old.items.limit ≡ most_items)

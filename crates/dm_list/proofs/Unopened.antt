@@ -8,11 +8,11 @@ use Rattle.dm_journal.specs.declared.fault.JournalFault.TheVariants as journals
 use Rattle.dm_kept.specs.Room.{most_items}
 use Rattle.dm_desk.specs.Opening.{Fails, IsUnchanged, OpenLeaves, ReadsDamage, disk_in, fault_of}
 use Rattle.dm_desk.specs.declared.fault.OpenFault.{OpenFault}
-use Rattle.dm_words.specs.Listing.{Listing as Asked, Adds}
-use Rattle.dm_words.specs.ListLines.{journal_damaged_line}
+use Rattle.dm_list.specs.Listed.{Listing as Asked, Adds}
+use Rattle.dm_report.specs.Lines.{journal_damaged_line}
 use Rattle.dm_list.specs.Run.{HasGoodAddress, IsUnopened, Judges, RunSays}
 use Rattle.dm_list.specs.Says.{Tells}
-use Rattle.dm_list.specs.Steps.{OpenEnds, Unopens, Unread}
+use Rattle.dm_list.specs.Steps.{OpenEnds, EndsUnread, Unopens}
 use Rattle.dm_list.specs.declared.ending.ListEnding.{ListEnding}
 use Rattle.dm_list.specs.declared.ending.ListEnding.TheVariants.{Said, BadAddress, NoItem, Damaged, DiskFailed, Full, NoMemory, OtherWord}
 
@@ -59,7 +59,7 @@ untouched clock at = record {
 }
 
 -- what is said where no order was read
-pub unread_says : (tells : Type 0) (clock : Clock) (word name digest : Option (List ℕ)) (text : List ℕ) (at : ℕ) (ending : ListEnding) → Unread text ending → RunSays tells clock clock (Adds word name digest text) at ending
+pub unread_says : (tells : Type 0) (clock : Clock) (word name digest : Option (List ℕ)) (text : List ℕ) (at : ℕ) (ending : ListEnding) → EndsUnread text ending → RunSays tells clock clock (Adds word name digest text) at ending
 unread_says tells clock word name digest text at BadAddress none = (none, refl)
 unread_says tells clock word name digest text at NoMemory is = inl (λ told. untouched clock at)
 unread_says tells clock word name digest text at (Said line) is = absurd is

@@ -2,7 +2,7 @@
 use Rattle.std.specs.Prelude.{ℕ, List, []}
 use Rattle.dm_types.specs.Faults.{NoneFell, Rose}
 use Rattle.dm_types.specs.declared.kinds.DiskKind.{DiskKind}
-use Rattle.dm_words.specs.Printed.{bad_address_line, disk_line, no_memory_line}
+use Rattle.dm_report.specs.Lines.{bad_address_line, disk_line, no_memory_line}
 use Rattle.dm_list.specs.declared.ending.ListEnding.{ListEnding}
 use Rattle.dm_list.specs.declared.ending.ListEnding.TheVariants.{Said, BadAddress, NoItem, Damaged, DiskFailed, Full, NoMemory, OtherWord}
 

@@ -1,3 +1,5 @@
+pub mod FileName
+pub mod Listed
 pub mod Ending
 pub mod Moments
 pub mod Run

@@ -11,7 +11,7 @@ use Rattle.dm_kept.specs.Spelled.{Records}
 use Rattle.dm_desk.specs.Opening.{reopening}
 use Rattle.dm_request.specs.declared.address.AddressFault.{AddressFault}
 use Rattle.dm_request.specs.Reading.{address_read}
-use Rattle.dm_words.specs.Listing.{Listing as Asked, Adds, Lists, Shows}
+use Rattle.dm_list.specs.Listed.{Listing as Asked, Adds, Lists, Shows}
 use Rattle.dm_list.specs.Says.{or_empty}
 
 -- the entry of an item for an address, with this id

@@ -11,9 +11,9 @@ use Rattle.dm_kept.specs.Spelled.{Records}
 use Rattle.dm_desk.specs.Opening.{IsRead, IsUnchanged, OnlyBefore, OpenLeaves, ReadsDamage, reopening}
 use Rattle.dm_request.specs.Fault.{IsNoAddress, IsRead as IsAddressOf}
 use Rattle.dm_types.specs.declared.address.Address.{Address}
-use Rattle.dm_words.specs.Listing.{Listing as Asked, Adds, IsWord, Lists, Shows}
-use Rattle.dm_words.specs.ListLines.{journal_damaged_line}
-use Rattle.dm_words.specs.Name.{IsName}
+use Rattle.dm_list.specs.Listed.{Listing as Asked, Adds, Lists, Shows}
+use Rattle.dm_report.specs.Lines.{journal_damaged_line}
+use Rattle.dm_words.specs.Values.{IsName, IsWord}
 use Rattle.dm_list.specs.Moments.{LeavesSome}
 use Rattle.dm_list.specs.Says.{Says}
 use Rattle.dm_list.specs.declared.ending.ListEnding.{ListEnding}

@@ -11,8 +11,8 @@ use Rattle.dm_item.specs.Listing.{Listing, item_in}
 use Rattle.dm_desk.specs.Add.{IsFull, IsKnown, IsNew, IsOther, added_by}
 use Rattle.dm_desk.specs.declared.order.Order.{Order}
 use Rattle.dm_request.specs.Fault.{IsRead}
-use Rattle.dm_words.specs.Listing.{Listing as Asked, Adds, Lists, Shows}
-use Rattle.dm_words.specs.ListLines.{items_full_line, no_item_line, word_taken_line}
+use Rattle.dm_list.specs.Listed.{Listing as Asked, Adds, Lists, Shows}
+use Rattle.dm_report.specs.Lines.{items_full_line, no_item_line, word_taken_line}
 use Rattle.dm_report.specs.Texts.{item_line_of, item_text_of}
 use Rattle.dm_list.specs.declared.ending.ListEnding.{ListEnding}
 use Rattle.dm_list.specs.declared.ending.ListEnding.TheVariants.{Said, BadAddress, NoItem, Damaged, DiskFailed, Full, NoMemory, OtherWord}

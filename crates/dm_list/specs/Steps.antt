@@ -14,34 +14,25 @@ use Rattle.dm_desk.specs.declared.order.Taken.TheVariants as takes
 use Rattle.dm_desk.specs.declared.fault.DeskFault.{DeskFault}
 use Rattle.dm_desk.specs.declared.fault.DeskFault.TheVariants as desk
 use Rattle.dm_types.specs.declared.address.Address.{Address}
-use Rattle.dm_request.specs.declared.address.AddressFault.{AddressFault}
-use Rattle.dm_request.specs.declared.address.AddressFault.TheVariants as addresses
 use Rattle.dm_request.specs.Fault.{IsNoAddress, IsRead}
 use Rattle.dm_report.specs.Texts.{item_line_of}
-use Rattle.dm_words.specs.ListLines.{items_full_line, journal_damaged_line, word_taken_line}
+use Rattle.dm_report.specs.Lines.{items_full_line, journal_damaged_line, word_taken_line}
 use Rattle.dm_list.specs.Run.{IsDamaged, IsUnopened, Leaves}
 use Rattle.dm_list.specs.Says.{AddSays, Tells, order_of}
 use Rattle.dm_list.specs.declared.ending.ListEnding.{ListEnding}
 use Rattle.dm_list.specs.declared.ending.ListEnding.TheVariants.{Said, BadAddress, NoItem, Damaged, DiskFailed, Full, NoMemory, OtherWord}
 use Rattle.dm_list.specs.declared.ending.ListRan.{ListRan}
 
--- the ending of a command whose address isn't read, by the fault
-abbrev pub unread_ending : AddressFault → ListEnding
-unread_ending (addresses.TooLong length) = BadAddress
-unread_ending addresses.NotUrl = BadAddress
-unread_ending addresses.NotHttp = BadAddress
-unread_ending addresses.NoMemory = NoMemory
-
 -- no address is read of the text, or memory was wanting
-abbrev pub Unread : List ℕ → ListEnding → Type 0
-Unread text BadAddress = IsNoAddress text
-Unread text NoMemory = Unit {0}
-Unread text (Said line) = ⊥
-Unread text (NoItem line) = ⊥
-Unread text (Damaged line) = ⊥
-Unread text (DiskFailed kind) = ⊥
-Unread text (Full line) = ⊥
-Unread text (OtherWord line) = ⊥
+abbrev pub EndsUnread : List ℕ → ListEnding → Type 0
+EndsUnread text BadAddress = IsNoAddress text
+EndsUnread text NoMemory = Unit {0}
+EndsUnread text (Said line) = ⊥
+EndsUnread text (NoItem line) = ⊥
+EndsUnread text (Damaged line) = ⊥
+EndsUnread text (DiskFailed kind) = ⊥
+EndsUnread text (Full line) = ⊥
+EndsUnread text (OtherWord line) = ⊥
 
 -- the order is for the address that is read of the text
 pub record IsOrderOf (word name digest : Option (List ℕ)) (text : List ℕ) (order : Order) : Type 0 where

@@ -3,7 +3,7 @@ ghost use Rattle.dm_types.specs.declared.item.Item.{Item};
 ghost use Rattle.dm_disk_model.specs.Moments.{KeepsFiles};
 ghost use Rattle.dm_item.specs.Listing.{item_in};
 ghost use Rattle.dm_report.specs.Texts.{item_line_of};
-ghost use Rattle.dm_words.specs.ListLines.{items_full_line, word_taken_line};
+ghost use Rattle.dm_report.specs.Lines.{items_full_line, word_taken_line};
 ghost use Rattle.dm_desk.specs.Add.{IsOrder};
 ghost use Rattle.dm_list.specs.Ending.{HasShown};
 ghost use Rattle.dm_list.specs.Says.{Tells};
@@ -15,9 +15,8 @@ use dm_desk::{Desk, DeskFault, Order, Taken};
 use dm_disk_model::Disk;
 use dm_edge::Origin;
 use dm_item::Items;
-use dm_report::item_line;
+use dm_report::{Verdict, errs_line, item_line};
 use dm_types::{Item, ItemId, NoMemory};
-use dm_words::{items_full_line, word_taken_line};
 use std::alloc::Global;
 
 fn say_line(alloc: Global, item: &Item) -> ListEnding
@@ -62,7 +61,7 @@ fn say_taken(alloc: Global, items: &Items, taken: Taken) -> ListEnding
 fn say_other_word(alloc: Global, id: ItemId) -> ListEnding
     ensures { Tells OtherWord (word_taken_line id.0) result }
 {
-    match word_taken_line(alloc, id) {
+    match errs_line(alloc, Verdict::OtherWord(id)) {
         Ok(line) => ListEnding::OtherWord(line),
         Err(NoMemory) => ListEnding::NoMemory,
     }
@@ -71,7 +70,7 @@ fn say_other_word(alloc: Global, id: ItemId) -> ListEnding
 fn say_full(alloc: Global, count: u32) -> ListEnding
     ensures { Tells Full (items_full_line count) result }
 {
-    match items_full_line(alloc, count) {
+    match errs_line(alloc, Verdict::ItemsFull(count)) {
         Ok(line) => ListEnding::Full(line),
         Err(NoMemory) => ListEnding::NoMemory,
     }

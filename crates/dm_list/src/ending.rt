@@ -1,8 +1,8 @@
 ghost use Rattle.std.specs.Prelude.{◌≡◌};
 ghost use Rattle.dm_list.specs.Ending.{errs_text, out_text, status_of};
 
+use dm_report::{Verdict, fixed_line};
 use dm_types::{DiskKind, Text};
-use dm_words::{bad_address_line, disk_line, no_memory_line};
 
 /// How a command of the list ended.
 #[derive(Debug, Drop)]
@@ -64,12 +64,12 @@ impl ListEnding {
     {
         match self {
             ListEnding::Said(_) => b"",
-            ListEnding::BadAddress => bad_address_line(),
+            ListEnding::BadAddress => fixed_line(Verdict::BadAddress),
             ListEnding::NoItem(line) => line.bytes(),
             ListEnding::Damaged(line) => line.bytes(),
-            ListEnding::DiskFailed(kind) => disk_line(*kind),
+            ListEnding::DiskFailed(kind) => fixed_line(Verdict::DiskFailed(*kind)),
             ListEnding::Full(line) => line.bytes(),
-            ListEnding::NoMemory => no_memory_line(),
+            ListEnding::NoMemory => fixed_line(Verdict::NoMemory),
             ListEnding::OtherWord(line) => line.bytes(),
         }
     }

@@ -1,7 +1,7 @@
 ghost use Rattle.std.specs.Prelude.{ℕ};
 ghost use Rattle.dm_item.specs.Lawful.{History};
 ghost use Rattle.dm_item.specs.Listing.{Listing as TheList};
-ghost use Rattle.dm_words.specs.Listing.{Listing as Asked};
+ghost use Rattle.dm_list.specs.Listed.{Listing as Asked};
 ghost use Rattle.dm_list.specs.Says.{IsAnswer, IsOneAnswer, Says};
 ghost use Rattle.dm_list.specs.declared.ending.ListEnding.{ListEnding as TheEnding};
 

@@ -1,14 +1,13 @@
 ghost use Rattle.std.specs.Prelude.{◌≡◌, ◌++◌, IfOk, OnOk};
 ghost use Rattle.dm_report.specs.Texts.{item_line_of, item_text_of};
-ghost use Rattle.dm_words.specs.ListLines.{no_item_line};
+ghost use Rattle.dm_report.specs.Lines.{no_item_line};
 ghost use Rattle.dm_list.specs.declared.ending.ListEnding.TheVariants.{NoItem, Said};
 ghost use Rattle.dm_list.specs.Says.{ListSays, ShowSays, Tells, item_lines_of};
 
 use crate::ListEnding;
 use dm_item::Items;
-use dm_report::{item_line, item_text};
+use dm_report::{Verdict, errs_line, item_line, item_text};
 use dm_types::{Item, ItemId, NoMemory, Text};
-use dm_words::no_item_line;
 use std::alloc::Global;
 
 /// Adds the line of an item.
@@ -54,7 +53,7 @@ fn say_item(alloc: Global, item: &Item) -> ListEnding
 fn say_no_item(alloc: Global, id: ItemId) -> ListEnding
     ensures { Tells NoItem (no_item_line id.0) result }
 {
-    match no_item_line(alloc, id) {
+    match errs_line(alloc, Verdict::NoItem(id)) {
         Ok(line) => ListEnding::NoItem(line),
         Err(NoMemory) => ListEnding::NoMemory,
     }

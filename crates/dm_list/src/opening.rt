@@ -3,7 +3,7 @@ ghost use Rattle.dm_types.specs.Faults.{NoneFell};
 ghost use Rattle.dm_disk_model.specs.Disk.{now};
 ghost use Rattle.dm_disk_model.specs.Moments.{KeepsFiles, LeavesOnly};
 ghost use Rattle.dm_kept.specs.Room.{most_items};
-ghost use Rattle.dm_words.specs.ListLines.{journal_damaged_line};
+ghost use Rattle.dm_report.specs.Lines.{journal_damaged_line};
 ghost use Rattle.dm_desk.specs.Opening.{IsOpened, OpenLeaves, disk_in, fault_of};
 ghost use Rattle.dm_desk.specs.View.{HoldsOf};
 ghost use Rattle.dm_list.specs.Ending.{Shows};
@@ -15,23 +15,14 @@ use crate::{ListEnding, ListRan};
 use dm_desk::{Desk, OpenFault};
 use dm_disk_model::Disk;
 use dm_edge::Origin;
-use dm_types::{Limits, NoMemory};
-use dm_words::journal_damaged_line;
+use dm_report::{Verdict, errs_line};
+use dm_types::{LIMITS, NoMemory};
 use std::alloc::Global;
-
-/// How much the list takes on: 4,096 items.
-const LIMITS: Limits = Limits {
-    items: 4096,
-    checkpoint: 1_048_576,
-    piece: 65_536,
-    min_slice: 1_048_576,
-    journal: 16_777_216,
-};
 
 fn say_damaged(alloc: Global, place: u64) -> ListEnding
     ensures { Tells Damaged (journal_damaged_line place) result }
 {
-    match journal_damaged_line(alloc, place) {
+    match errs_line(alloc, Verdict::Damaged(place)) {
         Ok(line) => ListEnding::Damaged(line),
         Err(NoMemory) => ListEnding::NoMemory,
     }

@@ -1,20 +1,20 @@
 ghost use Rattle.dm_disk_model.specs.Disk.{now as present};
 ghost use Rattle.dm_disk_model.specs.Moments.{KeepsFiles, LeavesOnly};
-ghost use Rattle.dm_words.specs.Listing.{Lists, Shows, adds_item, asked};
+ghost use Rattle.dm_list.specs.Listed.{Lists, Shows, adds_item, asked};
 ghost use Rattle.dm_list.specs.Ending.{HasShown};
 ghost use Rattle.dm_list.specs.Moments.{RunLeaves};
 ghost use Rattle.dm_list.specs.Run.{HasGoodWords, Judges, RunSays};
 
-use crate::ListRan;
 use crate::adding::add_order;
 use crate::looking::{say_list, say_shown};
 use crate::opening::open_desk;
 use crate::order::read_order;
+use crate::{ListCommand, ListRan};
 use dm_desk::Order;
 use dm_disk_model::Disk;
 use dm_edge::Origin;
 use dm_types::ItemId;
-use dm_words::{ListCommand, NewItem};
+use dm_words::Wish;
 use std::alloc::Global;
 
 /// `list`: prints a line for each item.
@@ -63,7 +63,7 @@ fn let_go(_order: Order) {}
 /// `add`: adds an item for an address, and prints its line.
 fn run_add<D: Disk, O: Origin>(
     alloc: Global,
-    item: &NewItem<'_>,
+    item: &Wish<'_>,
     disk: D,
     origin: O,
     at: u64,

@@ -1,9 +1,8 @@
 // How commands of the list are run on a disk in memory.
 use dm_disk::{Area, Disk, DiskFault, FailingCall, MemoryDisk, Place};
 use dm_edge::EveryByte;
-use dm_list::{ListEnding, ListRan, run_list};
+use dm_list::{ListEnding, ListRan, read_list_command, run_list};
 use dm_types::{DiskKind, Listed, NoMemory, Text};
-use dm_words::read_list_command;
 use std::alloc::Global;
 use std::test::Fail;
 

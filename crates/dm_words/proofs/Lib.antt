@@ -1,5 +1,5 @@
-pub mod Endings
 pub mod Texts
 pub mod OnePieces
 pub mod MorePieces
+pub mod OneValue
 pub mod OneCommand

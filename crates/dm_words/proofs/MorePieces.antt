@@ -1,306 +1,241 @@
--- What each step of reading the pieces keeps of what the words say.
-use Rattle.std.proofs.Common.{◌≡◌, ◌≢◌, ℕ, ◌+◌, ◌<◌, ◌≤◌, ◌-◌, Bool, true, false, cond, List, [], ◌∷◌, ◌++◌, length, take, drop, get_or, Option, Some, None, refl, sym, ◌∙◌, ap, subst, arith, append_assoc, codes}
-use Rattle.std.specs.Prelude.{IfNone, IsPermutation}
-use Rattle.std.specs.List.{All, sum_by}
-use Rattle.std.specs.Option.{option_to_list}
+-- What each step of reading keeps of what the words say.
+use Rattle.std.proofs.Common.{◌≡◌, ◌≢◌, ℕ, Bool, true, false, cond, List, [], ◌∷◌, ◌++◌, Option, Some, None, inl, inr, refl, sym, ◌∙◌, ap, subst, arith, codes}
+use Rattle.std.specs.Prelude.{slice_get}
+use Rattle.std.specs.List.{All, Any, Contains, find}
+use Rattle.std.specs.Option.{option_map, option_to_list}
 use Rattle.std.specs.Str.{bytes_eq}
-use Rattle.std.proofs.lemmas.List.{append-nil, take_all}
+use Rattle.std.proofs.lemmas.Bool.{false_from_ne_true}
+use Rattle.std.proofs.lemmas.List.{append-nil}
+use Rattle.std.proofs.lemmas.List.Elements.{All-nil, All-cons, All-head, All-tail, All-contains}
 use Rattle.std.proofs.lemmas.Slice.Eq.{bytes_eq-Decides}
-use Rattle.std.proofs.lemmas.List.Sums.{sum_by-append}
-use Rattle.std.proofs.lemmas.List.Sorted.{All-permutation, IsPermutation-middle, IsPermutation-refl, IsPermutation-sym, IsPermutation-trans, sum_by-IsPermutation}
-use Rattle.dm_words.specs.Pieces.{ArePieces, nothing, with_operand, with_option, HasParts, IsOperand, IsOption, Parts, Setting, no_parts, operands_of, set, settings_of}
-use Rattle.dm_words.specs.Reading.{IsWithOperand, IsWithOption, with_word, with_name, with_sha256, SaysRest}
-use Rattle.dm_words.proofs.OnePieces.{all_of, apart, begins, by_operand, by_option, in_middle}
+use Rattle.dm_words.specs.Pieces.{ArePieces, AreOnce, IsOperand, IsOption, Setting, nothing, with_operand, with_option, value_of}
+use Rattle.dm_words.specs.Table.{options_of}
+use Rattle.dm_words.specs.Reading.{IsSetting, SaysRest, word_after}
+use Rattle.dm_words.specs.declared.table.CommandName.{CommandName}
+use Rattle.dm_words.specs.declared.table.CommandName.TheVariants.{Get, Add, Resume, Pause, Cancel, Remove, Show, List as ListAll}
+use Rattle.dm_words.proofs.OnePieces.{apart, begins, by_operand, by_option}
+use Rattle.dm_words.proofs.Texts.{any_none, any_first, any_later, any_cases}
 
--- ---- an operand
+-- ---- each option of the table is one
 
-pub operand_front : (said new : Parts) (word : List ℕ) (rest : List (List ℕ)) (parts : Parts) → IsWithOperand said word new → IsOperand word → SaysRest new rest parts → SaysRest said (word ∷ rest) parts
-operand_front said new word rest parts step good says =
-    let later : SaysRest (record said { operand = Some word }) rest parts = subst (λ (p : Parts). SaysRest p rest parts) step.is says in
-    record {
-      settings = later.settings;
-      operands = word ∷ later.operands;
-      pieces = with_operand word rest later.settings later.operands good later.pieces;
-      same = later.same;
-      operand = ap (λ (o : Option (List ℕ)). option_to_list o ++ word ∷ later.operands) step.absent ∙ later.operand;
-    }
+dashed : (letters : List ℕ) (first : ℕ) → IsOption (codes "--" ++ first ∷ letters)
+dashed letters first = record { letters = first ∷ letters; is = refl; filled = omega arith }
 
-pub operand_back : (said new : Parts) (word : List ℕ) (rest : List (List ℕ)) (parts : Parts) → IsWithOperand said word new → IsOperand word → SaysRest said (word ∷ rest) parts → SaysRest new rest parts
-operand_back said new word rest parts step good says =
-    subst (λ (p : Parts). SaysRest p rest parts) (sym step.is) (elim (begins (word ∷ rest) says.settings says.operands says.pieces word rest refl) [
-      | by_operand more is operand pieces ↦ record {
-        settings = says.settings;
-        operands = more;
-        pieces = pieces;
-        same = says.same;
-        operand = sym (ap (λ (o : Option (List ℕ)). option_to_list o ++ word ∷ more) step.absent) ∙ ap (λ (l : List (List ℕ)). operands_of said ++ l) (sym is) ∙ says.operand;
-      }
-      | by_option value after more is set_is named filled pieces ↦ absurd (apart word named good)
-    ])
+none_options : All IsOption []
+none_options = All-nil IsOption
 
-two_operands : (first : Option (List ℕ)) (word : List ℕ) (more : List (List ℕ)) (last : Option (List ℕ)) → first ≢ None → option_to_list first ++ word ∷ more ≡ option_to_list last → ⊥
-two_operands None word more last there same = there refl
-two_operands (Some v) word more None there same = absurd cc
-two_operands (Some v) word more (Some w) there same = absurd cc
+word_option : IsOption (codes "--word")
+word_option = dashed (codes "ord") 119
 
-pub operand_twice : (said : Parts) (word : List ℕ) (rest : List (List ℕ)) (parts : Parts) → said.operand ≢ None → IsOperand word → SaysRest said (word ∷ rest) parts → ⊥
-operand_twice said word rest parts there good says = elim (begins (word ∷ rest) says.settings says.operands says.pieces word rest refl) [
-  | by_operand more is operand pieces ↦ two_operands said.operand word more parts.operand there (ap (λ (l : List (List ℕ)). operands_of said ++ l) (sym is) ∙ says.operand)
-  | by_option value after more is set_is named filled pieces ↦ apart word named good
+name_option : IsOption (codes "--name")
+name_option = dashed (codes "ame") 110
+
+sha256_option : IsOption (codes "--sha256")
+sha256_option = dashed (codes "ha256") 115
+
+slices_option : IsOption (codes "--slices")
+slices_option = dashed (codes "lices") 115
+
+with_wish : (rest : List (List ℕ)) → All IsOption rest → All IsOption (codes "--word" ∷ codes "--name" ∷ codes "--sha256" ∷ rest)
+with_wish rest all =
+    All-cons IsOption (codes "--word") (codes "--name" ∷ codes "--sha256" ∷ rest) word_option
+    (All-cons IsOption (codes "--name") (codes "--sha256" ∷ rest) name_option (All-cons IsOption (codes "--sha256") rest sha256_option all))
+
+slices_alone : All IsOption (codes "--slices" ∷ [])
+slices_alone = All-cons IsOption (codes "--slices") [] slices_option none_options
+
+all_options : (name : CommandName) → All IsOption (options_of name)
+all_options Get = with_wish (codes "--slices" ∷ []) slices_alone
+all_options Add = with_wish [] none_options
+all_options Resume = slices_alone
+all_options Pause = none_options
+all_options Cancel = none_options
+all_options Remove = none_options
+all_options Show = none_options
+all_options ListAll = none_options
+
+is_option : (name : CommandName) (option : List ℕ) → Contains (options_of name) option → IsOption option
+is_option name option known = All-contains IsOption (options_of name) option (all_options name) known
+
+-- ---- options that are set again
+
+-- where no word is the option, none of the settings is of it
+unset : (option : List ℕ) (words : List (List ℕ)) (settings : List Setting) (operands : List (List ℕ)) → ArePieces words settings operands → (Any (λ word. word ≡ option) words → ⊥)
+    → All (λ setting. setting.option ≢ option) settings
+unset option _ _ _ nothing fresh = All-nil (λ setting. setting.option ≢ option)
+unset option _ _ _ (with_operand word rest settings operands good pieces) fresh = unset option rest settings operands pieces (λ some. fresh (any_later (λ w. w ≡ option) word rest some))
+unset option _ _ _ (with_option name value rest settings operands named good pieces) fresh =
+    All-cons (λ setting. setting.option ≢ option) (record { option = name; value = value }) settings (λ same. fresh (any_first (λ w. w ≡ option) name (value ∷ rest) same))
+    (unset option rest settings operands pieces (λ some. fresh (any_later (λ w. w ≡ option) name (value ∷ rest) (any_later (λ w. w ≡ option) value rest some))))
+
+-- and the other way round
+fresh_in : (option : List ℕ) → IsOption option → (words : List (List ℕ)) (settings : List Setting) (operands : List (List ℕ)) → ArePieces words settings operands
+    → All (λ setting. setting.option ≢ option) settings → Any (λ word. word ≡ option) words → ⊥
+fresh_in option is _ _ _ nothing others some = any_none (λ w. w ≡ option) some
+fresh_in option is _ _ _ (with_operand word rest settings operands good pieces) others some = elim (any_cases (λ w. w ≡ option) word rest some) [
+  | inl same ↦ absurd (apart word (subst IsOption (sym same) is) good)
+  | inr later ↦ fresh_in option is rest settings operands pieces others later
+]
+fresh_in option is _ _ _ (with_option name value rest settings operands named good pieces) others some = elim (any_cases (λ w. w ≡ option) name (value ∷ rest) some) [
+  | inl same ↦ All-head (λ setting. setting.option ≢ option) (record { option = name; value = value }) settings others same
+  | inr later ↦ elim (any_cases (λ w. w ≡ option) value rest later) [
+    | inl same ↦ absurd (apart value (subst IsOption (sym same) is) good)
+    | inr more ↦ fresh_in option is rest settings operands pieces (All-tail (λ setting. setting.option ≢ option) (record { option = name; value = value }) settings others) more
+  ]
 ]
 
--- ---- an option
+-- ---- the word behind an option
 
-put_in : (front back : List Setting) (x : Setting) (more : List Setting) → IsPermutation ((front ++ back) ++ x ∷ more) ((front ++ x ∷ back) ++ more)
-put_in front back x more =
-    let behind : IsPermutation (front ++ x ∷ (back ++ more)) (x ∷ (front ++ (back ++ more))) = IsPermutation-middle front x (back ++ more) in
-    IsPermutation-trans ((front ++ back) ++ x ∷ more) (x ∷ ((front ++ back) ++ more)) ((front ++ x ∷ back) ++ more) (IsPermutation-middle (front ++ back) x more)
-    (subst (λ (l : List Setting). IsPermutation (x ∷ l) ((front ++ x ∷ back) ++ more)) (sym (append_assoc front back more))
-    (subst (λ (l : List Setting). IsPermutation (x ∷ (front ++ (back ++ more))) l) (sym (append_assoc front (x ∷ back) more))
-    (IsPermutation-sym (front ++ x ∷ (back ++ more)) (x ∷ (front ++ (back ++ more))) behind)))
+seen : (t : Bool) (option name value : List ℕ) (rest : List (List ℕ)) (settings : List Setting) → bytes_eq value option ≡ false → word_after option rest ≡ value_of option settings
+    → cond t (slice_get (value ∷ rest) 0) (word_after option (value ∷ rest))
+    ≡ option_map (λ (s : Setting). s.value) (cond t (Some (record { option = name; value = value })) (find (λ (s : Setting). bytes_eq s.option option) settings))
+seen true option name value rest settings other same = refl
+seen false option name value rest settings other same = ap (λ (b : Bool). cond b (slice_get rest 0) (word_after option rest)) other ∙ same
 
-abbrev setting : List ℕ → List ℕ → Setting
-setting option value = record { option = option; value = value }
+no_option : (option word : List ℕ) → IsOption option → IsOperand word → bytes_eq word option ≡ false
+no_option option word is good = false_from_ne_true (bytes_eq word option) (λ same. apart word (subst IsOption (sym ((bytes_eq-Decides word option).0 same)) is) good)
 
-abbrev words_in : Parts → List Setting
-words_in said = set (codes "--word") said.word
+pub value_is : (option : List ℕ) → IsOption option → (words : List (List ℕ)) (settings : List Setting) (operands : List (List ℕ)) → ArePieces words settings operands → word_after option words ≡ value_of option settings
+value_is option is _ _ _ nothing = refl
+value_is option is _ _ _ (with_operand word rest settings operands good pieces) =
+    ap (λ (b : Bool). cond b (slice_get rest 0) (word_after option rest)) (no_option option word is good) ∙ value_is option is rest settings operands pieces
+value_is option is _ _ _ (with_option name value rest settings operands named good pieces) =
+    seen (bytes_eq name option) option name value rest settings (no_option option value is good) (value_is option is rest settings operands pieces)
 
-abbrev names_in : Parts → List Setting
-names_in said = set (codes "--name") said.name
+-- ---- steps
 
-abbrev digests_in : Parts → List Setting
-digests_in said = set (codes "--sha256") said.sha256
-
-moved : (said : Parts) (option value : List ℕ) (new : Parts) (more : List Setting) → IsWithOption said option value new → IsPermutation (settings_of said ++ setting option value ∷ more) (settings_of new ++ more)
-moved said option value new more (with_word is absent step) =
-    subst (λ (p : Parts). IsPermutation (settings_of said ++ setting option value ∷ more) (settings_of p ++ more)) (sym step)
-    (subst (λ (o : List ℕ). IsPermutation (settings_of said ++ setting o value ∷ more) ((setting (codes "--word") value ∷ (names_in said ++ digests_in said)) ++ more)) (sym is)
-    (subst (λ (w : Option (List ℕ)). IsPermutation ((set (codes "--word") w ++ (names_in said ++ digests_in said)) ++ setting (codes "--word") value ∷ more) ((setting (codes "--word") value ∷ (names_in said ++ digests_in said)) ++ more)) (sym absent)
-    (put_in [] (names_in said ++ digests_in said) (setting (codes "--word") value) more)))
-moved said option value new more (with_name is absent step) =
-    subst (λ (p : Parts). IsPermutation (settings_of said ++ setting option value ∷ more) (settings_of p ++ more)) (sym step)
-    (subst (λ (o : List ℕ). IsPermutation (settings_of said ++ setting o value ∷ more) ((words_in said ++ setting (codes "--name") value ∷ digests_in said) ++ more)) (sym is)
-    (subst (λ (w : Option (List ℕ)). IsPermutation ((words_in said ++ (set (codes "--name") w ++ digests_in said)) ++ setting (codes "--name") value ∷ more) ((words_in said ++ setting (codes "--name") value ∷ digests_in said) ++ more)) (sym absent)
-    (put_in (words_in said) (digests_in said) (setting (codes "--name") value) more)))
-moved said option value new more (with_sha256 is absent step) =
-    subst (λ (p : Parts). IsPermutation (settings_of said ++ setting option value ∷ more) (settings_of p ++ more)) (sym step)
-    (subst (λ (o : List ℕ). IsPermutation (settings_of said ++ setting o value ∷ more) ((words_in said ++ (names_in said ++ setting (codes "--sha256") value ∷ [])) ++ more)) (sym is)
-    (subst (λ (w : Option (List ℕ)). IsPermutation ((words_in said ++ (names_in said ++ set (codes "--sha256") w)) ++ setting (codes "--sha256") value ∷ more) ((words_in said ++ (names_in said ++ setting (codes "--sha256") value ∷ [])) ++ more)) (sym absent)
-    (subst (λ (l : List Setting). IsPermutation (l ++ setting (codes "--sha256") value ∷ more) ((words_in said ++ (names_in said ++ setting (codes "--sha256") value ∷ [])) ++ more)) (append_assoc (words_in said) (names_in said) [])
-    (subst (λ (l : List Setting). IsPermutation (((words_in said ++ names_in said) ++ []) ++ setting (codes "--sha256") value ∷ more) (l ++ more)) (append_assoc (words_in said) (names_in said) (setting (codes "--sha256") value ∷ []))
-    (put_in (words_in said ++ names_in said) [] (setting (codes "--sha256") value) more)))))
-
-is_option : (said : Parts) (option value : List ℕ) (new : Parts) → IsWithOption said option value new → IsOption option
-is_option said option value new (with_word is absent step) = record { letters = codes "word"; is = is; filled = omega arith }
-is_option said option value new (with_name is absent step) = record { letters = codes "name"; is = is; filled = omega arith }
-is_option said option value new (with_sha256 is absent step) = record { letters = codes "sha256"; is = is; filled = omega arith }
-
-operands_stay : (said : Parts) (option value : List ℕ) (new : Parts) → IsWithOption said option value new → operands_of said ≡ operands_of new
-operands_stay said option value new (with_word is absent step) = ap operands_of (sym step)
-operands_stay said option value new (with_name is absent step) = ap operands_of (sym step)
-operands_stay said option value new (with_sha256 is absent step) = ap operands_of (sym step)
-
-pub option_front : (said new : Parts) (option value : List ℕ) (rest : List (List ℕ)) (parts : Parts) → IsWithOption said option value new → IsOperand value → SaysRest new rest parts → SaysRest said (option ∷ value ∷ rest) parts
-option_front said new option value rest parts step good says = record {
-  settings = setting option value ∷ says.settings;
-  operands = says.operands;
-  pieces = with_option option value rest says.settings says.operands (is_option said option value new step) good says.pieces;
-  same = IsPermutation-trans (settings_of said ++ setting option value ∷ says.settings) (settings_of new ++ says.settings) (settings_of parts) (moved said option value new says.settings step) says.same;
-  operand = ap (λ (l : List (List ℕ)). l ++ says.operands) (operands_stay said option value new step) ∙ says.operand;
+pub rest_done : (name : CommandName) (said : Option (List ℕ)) → SaysRest name said [] said
+rest_done name said = record {
+  settings = [];
+  operands = [];
+  has = record { pieces = nothing; known = All-nil (λ setting. Contains (options_of name) setting.option); once = tt };
+  operand_is = append-nil (option_to_list said);
 }
 
-pub option_back : (said new : Parts) (option value : List ℕ) (rest : List (List ℕ)) (parts : Parts) → IsWithOption said option value new → SaysRest said (option ∷ value ∷ rest) parts → SaysRest new rest parts
-option_back said new option value rest parts step says = elim (begins (option ∷ value ∷ rest) says.settings says.operands says.pieces option (value ∷ rest) refl) [
-  | by_operand more is operand pieces ↦ absurd (apart option (is_option said option value new step) operand)
+operand_then : (name : CommandName) (word : List ℕ) (rest : List (List ℕ)) (all : Option (List ℕ)) → IsOperand word → SaysRest name (Some word) rest all → SaysRest name None (word ∷ rest) all
+operand_then name word rest all good says = record {
+  settings = says.settings;
+  operands = word ∷ says.operands;
+  has = record { pieces = with_operand word rest says.settings says.operands good says.has.pieces; known = says.has.known; once = says.has.once };
+  operand_is = says.operand_is;
+}
+
+operand_since : (name : CommandName) (word : List ℕ) (rest : List (List ℕ)) (all : Option (List ℕ)) → IsOperand word → SaysRest name None (word ∷ rest) all → SaysRest name (Some word) rest all
+operand_since name word rest all good says = elim (begins (word ∷ rest) says.settings says.operands says.has.pieces word rest refl) [
+  | by_operand more is operand pieces ↦ record { settings = says.settings; operands = more; has = record { pieces = pieces; known = says.has.known; once = says.has.once }; operand_is = sym is ∙ says.operand_is }
+  | by_option value after more is set_is named filled pieces ↦ absurd (apart word named good)
+]
+
+two_operands : (first word : List ℕ) (more : List (List ℕ)) (all : Option (List ℕ)) → first ∷ word ∷ more ≡ option_to_list all → ⊥
+two_operands first word more None same = absurd cc
+two_operands first word more (Some w) same = absurd cc
+
+pub operand_twice : (name : CommandName) (first word : List ℕ) (rest : List (List ℕ)) (all : Option (List ℕ)) → IsOperand word → SaysRest name (Some first) (word ∷ rest) all → ⊥
+operand_twice name first word rest all good says = elim (begins (word ∷ rest) says.settings says.operands says.has.pieces word rest refl) [
+  | by_operand more is operand pieces ↦ two_operands first word more all (ap (λ (l : List (List ℕ)). first ∷ l) (sym is) ∙ says.operand_is)
+  | by_option value after more is set_is named filled pieces ↦ absurd (apart word named good)
+]
+
+option_then : (name : CommandName) (said : Option (List ℕ)) (option value : List ℕ) (rest : List (List ℕ)) (all : Option (List ℕ)) → IsSetting name option value rest → SaysRest name said rest all
+    → SaysRest name said (option ∷ value ∷ rest) all
+option_then name said option value rest all sets says =
+    let set : Setting = record { option = option; value = value } in
+    record {
+      settings = set ∷ says.settings;
+      operands = says.operands;
+      has = record {
+        pieces = with_option option value rest says.settings says.operands (is_option name option sets.known) sets.operand says.has.pieces;
+        known = All-cons (λ setting. Contains (options_of name) setting.option) set says.settings sets.known says.has.known;
+        once = (unset option rest says.settings says.operands says.has.pieces sets.fresh, says.has.once);
+      };
+      operand_is = says.operand_is;
+    }
+
+-- the words begin with an option
+pub record SetsFirst (name : CommandName) (said : Option (List ℕ)) (option value : List ℕ) (rest : List (List ℕ)) (all : Option (List ℕ)) : Type 0 where
+  pub sets : IsSetting name option value rest
+  pub says : SaysRest name said rest all
+
+sets_first : (name : CommandName) (said : Option (List ℕ)) (option value : List ℕ) (rest : List (List ℕ)) (more settings : List Setting) (operands : List (List ℕ)) (all : Option (List ℕ))
+    → settings ≡ record { option = option; value = value } ∷ more → IsOption option → IsOperand value → ArePieces rest more operands → All (λ setting. Contains (options_of name) setting.option) settings → AreOnce settings
+    → option_to_list said ++ operands ≡ option_to_list all → SetsFirst name said option value rest all
+sets_first name said option value rest more settings operands all is named good pieces known once operand_is =
+    let set : Setting = record { option = option; value = value } in
+    let known_too : All (λ setting. Contains (options_of name) setting.option) (set ∷ more) = subst (All (λ setting. Contains (options_of name) setting.option)) is known in
+    let once_too : AreOnce (set ∷ more) = subst AreOnce is once in
+    record {
+      sets = record { operand = good; known = All-head (λ setting. Contains (options_of name) setting.option) set more known_too; fresh = fresh_in option named rest more operands pieces once_too.0 };
+      says = record {
+        settings = more;
+        operands = operands;
+        has = record { pieces = pieces; known = All-tail (λ setting. Contains (options_of name) setting.option) set more known_too; once = once_too.1 };
+        operand_is = operand_is;
+      };
+    }
+
+option_since : (name : CommandName) (said : Option (List ℕ)) (option value : List ℕ) (rest : List (List ℕ)) (all : Option (List ℕ)) → (IsOperand option → ⊥) → SaysRest name said (option ∷ value ∷ rest) all
+    → SetsFirst name said option value rest all
+option_since name said option value rest all not says = elim (begins (option ∷ value ∷ rest) says.settings says.operands says.has.pieces option (value ∷ rest) refl) [
+  | by_operand more is operand pieces ↦ absurd (not operand)
   | by_option found after more is set_is named filled pieces ↦
       let same_value : found ≡ value = cc in
       let same_rest : after ≡ rest = cc in
-      let settings_are : says.settings ≡ setting option value ∷ more = set_is ∙ ap (λ (v : List ℕ). setting option v ∷ more) same_value in
-      record {
-        settings = more;
-        operands = says.operands;
-        pieces = subst (λ (l : List (List ℕ)). ArePieces l more says.operands) same_rest pieces;
-        same = IsPermutation-trans (settings_of new ++ more) (settings_of said ++ setting option value ∷ more) (settings_of parts)
-            (IsPermutation-sym (settings_of said ++ setting option value ∷ more) (settings_of new ++ more) (moved said option value new more step))
-            (subst (λ (l : List Setting). IsPermutation (settings_of said ++ l) (settings_of parts)) settings_are says.same);
-        operand = ap (λ (l : List (List ℕ)). l ++ says.operands) (sym (operands_stay said option value new step)) ∙ says.operand;
-      }
+      sets_first name said option value rest more says.settings says.operands all (set_is ∙ ap (λ (v : List ℕ). record { option = option; value = v } ∷ more) same_value) named (subst IsOperand same_value filled)
+      (subst (λ (l : List (List ℕ)). ArePieces l more says.operands) same_rest pieces) says.has.known says.has.once says.operand_is
 ]
 
--- ---- an option that can't be taken
-
--- 1 for a setting of the option, else 0
-abbrev tally : List ℕ → Setting → ℕ
-tally option s = cond (bytes_eq option s.option) 1 0
-
-module _ (option : List ℕ) where
-  -- how often the option is there
-  abbrev count_of : List Setting → ℕ
-  count_of settings = sum_by (tally option) settings
-
-  at_most_one : (other : List ℕ) (value : Option (List ℕ)) → count_of (set other value) ≤ 1
-  at_most_one other None = omega arith
-  at_most_one other (Some v) = at_most (bytes_eq option other) where
-    at_most : (b : Bool) → 0 + cond b 1 0 ≤ 1
-    at_most true = omega arith
-    at_most false = omega arith
-
-  of_another : (other : List ℕ) (value : Option (List ℕ)) → bytes_eq option other ≡ false → count_of (set other value) ≡ 0
-  of_another other None apart = refl
-  of_another other (Some v) apart = ap (λ (b : Bool). 0 + cond b 1 0) apart
-
-  of_itself : (v : List ℕ) → count_of (set option (Some v)) ≡ 1
-  of_itself v = let both = bytes_eq-Decides option option in ap (λ (b : Bool). 0 + cond b 1 0) (both.1 refl)
-
-  counted : (parts : Parts) → count_of (settings_of parts) ≡ count_of (words_in parts) + (count_of (names_in parts) + count_of (digests_in parts))
-  counted parts = omega (arith, sum_by-append (tally option) (words_in parts) (names_in parts ++ digests_in parts), sum_by-append (tally option) (names_in parts) (digests_in parts))
-
-  -- an option that is there once is there no second time
-  repeats : (said parts : Parts) (v : List ℕ) (more : List Setting) → 1 ≤ count_of (settings_of said) → count_of (settings_of parts) ≤ 1 → IsPermutation (settings_of said ++ setting option v ∷ more) (settings_of parts) → ⊥
-  repeats said parts v more before once same =
-      absurd (omega (arith, sum_by-IsPermutation (tally option) (settings_of said ++ setting option v ∷ more) (settings_of parts) same, sum_by-append (tally option) (settings_of said) (setting option v ∷ more), sum_by-append (tally option) (set option (Some v)) more, of_itself v, before, once))
-
-word_once : (parts : Parts) → count_of (codes "--word") (settings_of parts) ≤ 1
-word_once parts = omega (arith, counted (codes "--word") parts, at_most_one (codes "--word") (codes "--word") parts.word, of_another (codes "--word") (codes "--name") parts.name refl, of_another (codes "--word") (codes "--sha256") parts.sha256 refl)
-
-name_once : (parts : Parts) → count_of (codes "--name") (settings_of parts) ≤ 1
-name_once parts = omega (arith, counted (codes "--name") parts, of_another (codes "--name") (codes "--word") parts.word refl, at_most_one (codes "--name") (codes "--name") parts.name, of_another (codes "--name") (codes "--sha256") parts.sha256 refl)
-
-sha256_once : (parts : Parts) → count_of (codes "--sha256") (settings_of parts) ≤ 1
-sha256_once parts = omega (arith, counted (codes "--sha256") parts, of_another (codes "--sha256") (codes "--word") parts.word refl, of_another (codes "--sha256") (codes "--name") parts.name refl, at_most_one (codes "--sha256") (codes "--sha256") parts.sha256)
-
-there_once : (option : List ℕ) (value : Option (List ℕ)) (v : List ℕ) → value ≡ Some v → count_of option (set option value) ≡ 1
-there_once option value v is = ap (λ (o : Option (List ℕ)). count_of option (set option o)) is ∙ of_itself option v
-
--- it is absent, or there
-data Seen (value : Option (List ℕ)) : Type 0 where
-  absent : value ≡ None → Seen value
-  there : (v : List ℕ) → value ≡ Some v → Seen value
-
-seen : (value : Option (List ℕ)) → Seen value
-seen None = absent refl
-seen (Some v) = there v refl
-
-module _ (said parts : Parts) (v : List ℕ) (more : List Setting) where
-  word_twice : IsPermutation (settings_of said ++ setting (codes "--word") v ∷ more) (settings_of parts) → said.word ≡ None
-  word_twice same = elim (seen said.word) [
-    | absent is ↦ is
-    | there w is ↦ absurd (repeats (codes "--word") said parts v more (omega (arith, counted (codes "--word") said, there_once (codes "--word") said.word w is)) (word_once parts) same)
-  ]
-
-  name_twice : IsPermutation (settings_of said ++ setting (codes "--name") v ∷ more) (settings_of parts) → said.name ≡ None
-  name_twice same = elim (seen said.name) [
-    | absent is ↦ is
-    | there w is ↦ absurd (repeats (codes "--name") said parts v more (omega (arith, counted (codes "--name") said, there_once (codes "--name") said.name w is)) (name_once parts) same)
-  ]
-
-  sha256_twice : IsPermutation (settings_of said ++ setting (codes "--sha256") v ∷ more) (settings_of parts) → said.sha256 ≡ None
-  sha256_twice same = elim (seen said.sha256) [
-    | absent is ↦ is
-    | there w is ↦ absurd (repeats (codes "--sha256") said parts v more (omega (arith, counted (codes "--sha256") said, there_once (codes "--sha256") said.sha256 w is)) (sha256_once parts) same)
-  ]
-
--- each option that is there is one of those that there are
-data IsKnown (s : Setting) : Type 0 where
-  is_word : s.option ≡ codes "--word" → IsKnown s
-  is_name : s.option ≡ codes "--name" → IsKnown s
-  is_sha256 : s.option ≡ codes "--sha256" → IsKnown s
-
-all_known : (parts : Parts) → All IsKnown (settings_of parts)
-all_known parts = all_of IsKnown parts (record { word = λ v is. is_word refl; name = λ v is. is_name refl; sha256 = λ v is. is_sha256 refl })
-
-taken : (said parts : Parts) (option value : List ℕ) (more : List Setting) → IsPermutation (settings_of said ++ setting option value ∷ more) (settings_of parts) → ((all : Parts) → IsWithOption said option value all → ⊥) → IsKnown (setting option value) → ⊥
-taken said parts option value more same none (is_word is) =
-    none (record said { word = Some value }) (with_word is (word_twice said parts value more (subst (λ (o : List ℕ). IsPermutation (settings_of said ++ setting o value ∷ more) (settings_of parts)) is same)) refl)
-taken said parts option value more same none (is_name is) =
-    none (record said { name = Some value }) (with_name is (name_twice said parts value more (subst (λ (o : List ℕ). IsPermutation (settings_of said ++ setting o value ∷ more) (settings_of parts)) is same)) refl)
-taken said parts option value more same none (is_sha256 is) =
-    none (record said { sha256 = Some value }) (with_sha256 is (sha256_twice said parts value more (subst (λ (o : List ℕ). IsPermutation (settings_of said ++ setting o value ∷ more) (settings_of parts)) is same)) refl)
-
--- an option that is unknown, or there already, says nothing
-pub option_refused : (said : Parts) (option value : List ℕ) (rest : List (List ℕ)) (parts : Parts) → (IsOperand option → ⊥) → ((all : Parts) → IsWithOption said option value all → ⊥) → SaysRest said (option ∷ value ∷ rest) parts → ⊥
-option_refused said option value rest parts bare none says = elim (begins (option ∷ value ∷ rest) says.settings says.operands says.pieces option (value ∷ rest) refl) [
-  | by_operand more is operand pieces ↦ bare operand
-  | by_option found after more is set_is named filled pieces ↦
-      let same_value : found ≡ value = cc in
-      let settings_are : says.settings ≡ setting option value ∷ more = set_is ∙ ap (λ (v : List ℕ). setting option v ∷ more) same_value in
-      let same : IsPermutation (settings_of said ++ setting option value ∷ more) (settings_of parts) = subst (λ (l : List Setting). IsPermutation (settings_of said ++ l) (settings_of parts)) settings_are says.same in
-      let known : IsKnown (setting option value) =
-      in_middle IsKnown (settings_of said) (setting option value) more
-      (All-permutation IsKnown (settings_of parts) (settings_of said ++ setting option value ∷ more) (IsPermutation-sym (settings_of said ++ setting option value ∷ more) (settings_of parts) same) (all_known parts)) in
-      taken said parts option value more same none known
+pub option_alone : (name : CommandName) (said : Option (List ℕ)) (option : List ℕ) (all : Option (List ℕ)) → (IsOperand option → ⊥) → SaysRest name said (option ∷ []) all → ⊥
+option_alone name said option all not says = elim (begins (option ∷ []) says.settings says.operands says.has.pieces option [] refl) [
+  | by_operand more is operand pieces ↦ not operand
+  | by_option found after more is set_is named filled pieces ↦ absurd cc
 ]
 
--- ---- the end and the beginning
+-- ---- the steps by what was looked at: the words' first, as a word and as its bytes
 
-pub says_all : (said : Parts) → SaysRest said [] said
-says_all said = record {
-  settings = [];
-  operands = [];
-  pieces = nothing;
-  same = subst (λ (l : List Setting). IsPermutation l (settings_of said)) (sym (append-nil (settings_of said))) (IsPermutation-refl (settings_of said));
-  operand = append-nil (operands_of said);
+pub met_operand : (name : CommandName) (said : Option (List ℕ)) (words rest : List (List ℕ)) (first seen : List ℕ) (all : Option (List ℕ)) → said ≡ None → words ≡ first ∷ rest → seen ≡ first → IsOperand seen
+    → SaysRest name (Some seen) rest all → SaysRest name said words all
+met_operand name said words rest first seen all none are same good says =
+    subst (λ (o : Option (List ℕ)). SaysRest name o words all) (sym none)
+    (subst (λ (l : List (List ℕ)). SaysRest name None l all) (ap (λ (w : List ℕ). w ∷ rest) same ∙ sym are) (operand_then name seen rest all good says))
+
+pub since_operand : (name : CommandName) (said : Option (List ℕ)) (words rest : List (List ℕ)) (first seen : List ℕ) (all : Option (List ℕ)) → said ≡ None → words ≡ first ∷ rest → seen ≡ first → IsOperand seen
+    → SaysRest name said words all → SaysRest name (Some seen) rest all
+since_operand name said words rest first seen all none are same good says =
+    operand_since name seen rest all good
+    (subst (λ (l : List (List ℕ)). SaysRest name None l all) (are ∙ ap (λ (w : List ℕ). w ∷ rest) (sym same)) (subst (λ (o : Option (List ℕ)). SaysRest name o words all) none says))
+
+pub met_option : (name : CommandName) (said : Option (List ℕ)) (words rest after : List (List ℕ)) (option value : List ℕ) (all : Option (List ℕ)) → words ≡ option ∷ rest → rest ≡ value ∷ after
+    → IsSetting name option value after → SaysRest name said after all → SaysRest name said words all
+met_option name said words rest after option value all are next sets says =
+    subst (λ (l : List (List ℕ)). SaysRest name said l all) (ap (λ (l : List (List ℕ)). option ∷ l) (sym next) ∙ sym are) (option_then name said option value after all sets says)
+
+pub since_option : (name : CommandName) (said : Option (List ℕ)) (words rest after : List (List ℕ)) (option seen value : List ℕ) (all : Option (List ℕ)) → words ≡ option ∷ rest → rest ≡ value ∷ after → seen ≡ option
+    → (IsOperand seen → ⊥) → SaysRest name said words all → SetsFirst name said option value after all
+since_option name said words rest after option seen value all are next same not says =
+    option_since name said option value after all (λ good. not (subst IsOperand (sym same) good))
+    (subst (λ (l : List (List ℕ)). SaysRest name said l all) (are ∙ ap (λ (l : List (List ℕ)). option ∷ l) next) says)
+
+-- ---- the word behind an option, step by step
+
+pub after_found : (option : List ℕ) (words rest : List (List ℕ)) (word : List ℕ) → words ≡ word ∷ rest → word ≡ option → slice_get rest 0 ≡ word_after option words
+after_found option words rest word are same =
+    sym (ap (word_after option) are ∙ ap (λ (b : Bool). cond b (slice_get rest 0) (word_after option rest)) ((bytes_eq-Decides word option).1 same))
+
+pub after_passed : (option : List ℕ) (words rest : List (List ℕ)) (word : List ℕ) → words ≡ word ∷ rest → (word ≡ option → ⊥) → word_after option rest ≡ word_after option words
+after_passed option words rest word are other =
+    sym (ap (word_after option) are ∙ ap (λ (b : Bool). cond b (slice_get rest 0) (word_after option rest)) (false_from_ne_true (bytes_eq word option) (λ same. other ((bytes_eq-Decides word option).0 same))))
+
+-- the values of the options that there are
+pub record HasValues (words : List (List ℕ)) (settings : List Setting) : Type 0 where
+  pub word : word_after (codes "--word") words ≡ value_of (codes "--word") settings
+  pub name : word_after (codes "--name") words ≡ value_of (codes "--name") settings
+  pub sha256 : word_after (codes "--sha256") words ≡ value_of (codes "--sha256") settings
+  pub slices : word_after (codes "--slices") words ≡ value_of (codes "--slices") settings
+
+pub has_values : (words : List (List ℕ)) (settings : List Setting) (operands : List (List ℕ)) → ArePieces words settings operands → HasValues words settings
+has_values words settings operands pieces = record {
+  word = value_is (codes "--word") word_option words settings operands pieces;
+  name = value_is (codes "--name") name_option words settings operands pieces;
+  sha256 = value_is (codes "--sha256") sha256_option words settings operands pieces;
+  slices = value_is (codes "--slices") slices_option words settings operands pieces;
 }
-
-pub from_start : (first : Parts) (words : List (List ℕ)) (parts : Parts) → first ≡ no_parts → HasParts words parts → SaysRest first words parts
-from_start first words parts is has =
-    subst (λ (p : Parts). SaysRest p words parts) (sym is) (record { settings = has.settings; operands = operands_of parts; pieces = has.pieces; same = has.same; operand = refl })
-
--- ---- the same of the words as they are read
-
--- the word at the front, before the others
-pub one_first : (words : List (List ℕ)) (x : List ℕ) → 1 ≤ length words → x ≡ get_or words 0 x → words ≡ x ∷ take (length words - 1) (drop 1 words)
-one_first [] x long is = absurd (omega arith)
-one_first (first ∷ rest) x long is = ap (λ (w : List ℕ). w ∷ rest) (sym is) ∙ ap (λ (l : List (List ℕ)). x ∷ l) (sym (take_all (length (first ∷ rest) - 1) rest (omega arith)))
-
-pub name_first : (words : List (List ℕ)) (x name : List ℕ) → 1 ≤ length words → x ≡ get_or words 0 x → x ≡ name → words ≡ name ∷ take (length words - 1) (drop 1 words)
-name_first words x name long is same = one_first words x long is ∙ ap (λ (w : List ℕ). w ∷ take (length words - 1) (drop 1 words)) same
-
--- two words at the front, before the others
-pub two_first : (words : List (List ℕ)) (x y : List ℕ) → 2 ≤ length words → x ≡ get_or words 0 x → y ≡ get_or words 1 y → words ≡ x ∷ y ∷ take (length words - 2) (drop 2 words)
-two_first [] x y long is next = absurd (omega arith)
-two_first (first ∷ []) x y long is next = absurd (omega arith)
-two_first (first ∷ second ∷ rest) x y long is next =
-    ap (λ (w : List ℕ). w ∷ second ∷ rest) (sym is) ∙ ap (λ (w : List ℕ). x ∷ w ∷ rest) (sym next) ∙ ap (λ (l : List (List ℕ)). x ∷ y ∷ l) (sym (take_all (length (first ∷ second ∷ rest) - 2) rest (omega arith)))
-
-pub if_none : {X : Type 0} (result : Option X) (P Q : Type 0) → IfNone result P → (P → Q) → IfNone result Q
-if_none None P Q is leads = leads is
-if_none (Some x) P Q is leads = is
-
--- a turn that takes an operand
-module _ (said new : Parts) (words rest : List (List ℕ)) (x w seen : List ℕ) (are : words ≡ x ∷ rest) (same : w ≡ x) (look : seen ≡ x) (good : IsOperand seen) (step : IsWithOperand said w new) where
-  good_word : IsOperand w
-  good_word = subst IsOperand (look ∙ sym same) good
-
-  begin : words ≡ w ∷ rest
-  begin = are ∙ ap (λ (first : List ℕ). first ∷ rest) (sym same)
-
-  pub operand_then : (parts : Parts) → SaysRest new rest parts → SaysRest said words parts
-  operand_then parts says = subst (λ (l : List (List ℕ)). SaysRest said l parts) (sym begin) (operand_front said new w rest parts step good_word says)
-
-  pub operand_since : (parts : Parts) → SaysRest said words parts → SaysRest new rest parts
-  operand_since parts says = operand_back said new w rest parts step good_word (subst (λ (l : List (List ℕ)). SaysRest said l parts) begin says)
-
--- a turn that takes an option
-module _ (said new : Parts) (words rest : List (List ℕ)) (x y v seen : List ℕ) (are : words ≡ x ∷ y ∷ rest) (same : v ≡ y) (look : seen ≡ y) (good : IsOperand seen) (step : IsWithOption said x v new) where
-  both : words ≡ x ∷ v ∷ rest
-  both = are ∙ ap (λ (value : List ℕ). x ∷ value ∷ rest) (sym same)
-
-  pub option_then : (parts : Parts) → SaysRest new rest parts → SaysRest said words parts
-  option_then parts says = subst (λ (l : List (List ℕ)). SaysRest said l parts) (sym both) (option_front said new x v rest parts step (subst IsOperand (look ∙ sym same) good) says)
-
-  pub option_since : (parts : Parts) → SaysRest said words parts → SaysRest new rest parts
-  option_since parts says = option_back said new x v rest parts step (subst (λ (l : List (List ℕ)). SaysRest said l parts) both says)
-
--- a turn that refuses an option
-pub option_over : (said : Parts) (words rest : List (List ℕ)) (x y v seen : List ℕ) → words ≡ x ∷ y ∷ rest → v ≡ y → seen ≡ x → (IsOperand seen → ⊥) → ((all : Parts) → IsWithOption said x v all → ⊥) → (parts : Parts) → SaysRest said words parts → ⊥
-option_over said words rest x y v seen are same look bare none parts says =
-    option_refused said x v rest parts (λ good. bare (subst IsOperand (sym look) good)) none
-    (subst (λ (l : List (List ℕ)). SaysRest said l parts) (are ∙ ap (λ (value : List ℕ). x ∷ value ∷ rest) (sym same)) says)
-
-pub empty_words : (words : List (List ℕ)) → length words < 1 → words ≡ []
-empty_words [] short = refl
-empty_words (word ∷ rest) short = absurd (omega arith)
-
-pub says_none : (said : Parts) (words : List (List ℕ)) → length words < 1 → SaysRest said words said
-says_none said words short = subst (λ (l : List (List ℕ)). SaysRest said l said) (sym (empty_words words short)) (says_all said)

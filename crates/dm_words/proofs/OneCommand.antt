@@ -1,155 +1,198 @@
 -- Words ask one thing.
-use Rattle.std.proofs.Common.{◌≡◌, ◌≢◌, ℕ, ◌<◌, List, [], ◌∷◌, length, Option, Some, None, Result, Ok, Err, refl, sym, ap, subst, arith, codes}
-use Rattle.std.specs.Prelude.{IfSome, OnErr}
-use Rattle.std.proofs.lemmas.List.Sorted.{IsPermutation-refl, length_permutation}
-use Rattle.std.proofs.lemmas.Option.{IfSome_then}
-use Rattle.dm_words.specs.Command.{IsGet}
-use Rattle.dm_words.specs.Listing.{Adds, Asks, IsDigestOf, Listing, Lists, Shows, asked}
-use Rattle.dm_words.specs.Pieces.{HasParts, IsCommand, Parts, no_parts, nothing}
-use Rattle.dm_words.specs.Reading.{IsGetOf, IsIdOf, IsItem}
-use Rattle.dm_words.specs.declared.listing.ListCommand.{ListCommand}
-use Rattle.dm_words.proofs.MorePieces.{empty_words}
-use Rattle.dm_words.proofs.OnePieces.{begins, by_operand, by_option, differ, one_command, one_reading}
+use Rattle.std.proofs.Common.{◌≡◌, ◌≢◌, ℕ, ◌<◌, List, ◌∷◌, length, if◌then◌else◌, Option, Some, None, Result, refl, sym, ◌∙◌, ap, subst, arith, codes}
+use Rattle.std.specs.Prelude.{IfOk}
+use Rattle.std.specs.Option.{option_to_list}
+use Rattle.std.specs.Str.{bytes_eq}
+use Rattle.std.proofs.lemmas.Result.{IfOk-weaker}
+use Rattle.dm_words.specs.Pieces.{ArePieces, Setting, value_of}
+use Rattle.dm_words.specs.Table.{AreFor, name_of}
+use Rattle.dm_words.specs.Asked.{Adds, Asked, Asks, Cancels, Gets, IsIdOf, IsTold, IsWish, Lists, Makes, Pauses, Removes, Resumes, Shows, Told, WishOf, asked, command_of, told_by}
+use Rattle.dm_words.specs.Values.{IsNumber, IsSlices}
+use Rattle.dm_words.specs.Reading.{IsMade, SaysRest, word_after}
+use Rattle.dm_words.specs.declared.command.Command.{Command}
+use Rattle.dm_words.specs.declared.command.BadWords.{BadWords}
+use Rattle.dm_words.specs.declared.table.CommandName.{CommandName}
+use Rattle.dm_words.specs.declared.table.CommandName.TheVariants.{Get, Add, Resume, Pause, Cancel, Remove, Show, List as ListAll}
+use Rattle.dm_words.proofs.MorePieces.{has_values}
+use Rattle.dm_words.proofs.OnePieces.{one_pieces}
+use Rattle.dm_words.proofs.Texts.{same_option}
+use Rattle.dm_words.proofs.OneValue.{one_digest, one_number, one_slices}
 
--- what stands after the name
-pub said_by : (name : List ℕ) (rest : List (List ℕ)) (parts : Parts) → IsCommand name (name ∷ rest) parts → HasParts rest parts
-said_by name rest parts command = let same : command.rest ≡ rest = cc (command.is) in subst (λ (l : List (List ℕ)). HasParts l parts) same command.has
+-- ---- a name is of one command
 
--- words of another name
-pub named_otherwise : (name other : List ℕ) (rest : List (List ℕ)) (parts : Parts) → (other ≢ name) → IsCommand other (name ∷ rest) parts → ⊥
-named_otherwise name other rest parts apart command = let same : other ≡ name = cc (command.is) in apart same
+named : List ℕ → Option CommandName
+named word =
+    if bytes_eq word (codes "get") then Some Get
+    else (if bytes_eq word (codes "add") then Some Add
+    else (if bytes_eq word (codes "resume") then Some Resume
+    else (if bytes_eq word (codes "pause") then Some Pause
+    else (if bytes_eq word (codes "cancel") then Some Cancel
+    else (if bytes_eq word (codes "remove") then Some Remove
+    else (if bytes_eq word (codes "show") then Some Show
+    else (if bytes_eq word (codes "list") then Some ListAll else None)))))))
 
--- the parts of a command of the list
-record HasSome (rest : List (List ℕ)) : Type 0 where
-  parts : Parts
-  has : HasParts rest parts
+named_back : (name : CommandName) → named (name_of name) ≡ Some name
+unfolding named
+named_back Get = refl
+named_back Add = refl
+named_back Resume = refl
+named_back Pause = refl
+named_back Cancel = refl
+named_back Remove = refl
+named_back Show = refl
+named_back ListAll = refl
 
-tail_of : (name other : List ℕ) (rest : List (List ℕ)) (parts : Parts) → IsCommand other (name ∷ rest) parts → HasSome rest
-tail_of name other rest parts command = let same : command.rest ≡ rest = cc (command.is) in record { parts = parts; has = subst (λ (l : List (List ℕ)). HasParts l parts) same command.has }
+one_name : (a b : CommandName) → name_of a ≡ name_of b → a ≡ b
+one_name a b same = let both : Some a ≡ Some b = sym (named_back a) ∙ ap named same ∙ named_back b in cc
 
-some_parts : (name : List ℕ) (rest : List (List ℕ)) (listing : Listing) → Asks (name ∷ rest) listing → HasSome rest
-some_parts name rest (Adds word wish digest address) asks = tail_of name (codes "add") rest _ asks.says
-some_parts name rest Lists asks = tail_of name (codes "list") rest no_parts asks
-some_parts name rest (Shows id) asks = tail_of name (codes "show") rest _ asks.says
+pub record AreOne (a b : CommandName) (first second : Told) : Type 0 where
+  pub names : a ≡ b
+  pub told : first ≡ second
 
--- words that are no pieces ask nothing
-pub no_pieces : (name : List ℕ) (rest : List (List ℕ)) → ((parts : Parts) → HasParts rest parts → ⊥) → (listing : Listing) → Asks (name ∷ rest) listing → ⊥
-no_pieces name rest none listing asks = let some = some_parts name rest listing asks in none some.parts some.has
+-- words tell one thing, with one command
+pub one_told : (words : List (List ℕ)) (a b : CommandName) (first second : Told) → IsTold a words first → IsTold b words second → AreOne a b first second
+one_told words a b first second is other =
+    let names : name_of a ≡ name_of b = cc (is.is.is, other.is.is) in
+    let rests : other.is.rest ≡ is.is.rest = cc (is.is.is, other.is.is) in
+    let again : ArePieces is.is.rest other.settings (option_to_list other.operand) = subst (λ (l : List (List ℕ)). ArePieces l other.settings (option_to_list other.operand)) rests other.is.has.pieces in
+    let same = one_pieces is.is.rest is.settings (option_to_list is.operand) is.is.has.pieces other.settings (option_to_list other.operand) again in
+    record {
+      names = one_name a b names;
+      told = is.told_is ∙ ap (λ (s : List Setting). told_by s is.operand) same.settings_are ∙ ap (told_by other.settings) (same_option is.operand other.operand same.operands_are) ∙ sym other.told_is;
+    }
 
-pub no_item : (rest : List (List ℕ)) (parts : Parts) → HasParts rest parts → ((word wish digest : Option (List ℕ)) (address : List ℕ) → IsItem parts word wish digest address → ⊥) → (listing : Listing)
-    → Asks (codes "add" ∷ rest) listing → ⊥
-no_item rest parts has none (Adds word wish digest address) asks =
-    let told : Parts = record { word = word; name = wish; sha256 = asks.digits; operand = Some address } in
-    let same : parts ≡ told = one_reading rest parts told has (said_by (codes "add") rest told asks.says) in
-    none word wish digest address (record {
-      word_is = ap (λ (p : Parts). p.word) same;
-      name_is = ap (λ (p : Parts). p.name) same;
-      address_is = ap (λ (p : Parts). p.operand) same;
-      is_word = asks.is_word;
-      is_name = asks.is_name;
-      is_digest = subst (λ (d : Option (List ℕ)). IsDigestOf d digest) (sym (ap (λ (p : Parts). p.sha256) same)) asks.is_digest;
-    })
-no_item rest parts has none Lists asks = named_otherwise (codes "add") (codes "list") rest no_parts (differ (codes "list") (codes "add") refl) asks
-no_item rest parts has none (Shows id) asks = named_otherwise (codes "add") (codes "show") rest _ (differ (codes "show") (codes "add") refl) asks.says
+-- ---- what is told asks one thing
 
-pub no_id : (rest : List (List ℕ)) (parts : Parts) → HasParts rest parts → ((id : ℕ) → IsIdOf parts id → ⊥) → (listing : Listing) → Asks (codes "show" ∷ rest) listing → ⊥
-no_id rest parts has none (Adds word wish digest address) asks = named_otherwise (codes "show") (codes "add") rest _ (differ (codes "add") (codes "show") refl) asks.says
-no_id rest parts has none Lists asks = named_otherwise (codes "show") (codes "list") rest no_parts (differ (codes "list") (codes "show") refl) asks
-no_id rest parts has none (Shows id) asks =
-    let told : Parts = record no_parts { operand = Some asks.digits } in
-    none id (record { digits = asks.digits; is = one_reading rest parts told has (said_by (codes "show") rest told asks.says); is_id = asks.is_id })
+one_wish : (told : Told) (first second : WishOf) → IsWish told first → IsWish told second → first ≡ second
+one_wish told first second is other =
+    let word : first.word ≡ second.word = sym is.word_is ∙ other.word_is in
+    let name : first.name ≡ second.name = sym is.name_is ∙ other.name_is in
+    let digest : first.digest ≡ second.digest = one_digest told.sha256 first.digest second.digest is.is_digest other.is_digest in
+    let addresses : Some first.address ≡ Some second.address = sym is.address_is ∙ other.address_is in
+    let address : first.address ≡ second.address = cc in
+    ap (λ (o : Option (List ℕ)). record first { word = o }) word
+    ∙ ap (λ (o : Option (List ℕ)). record first { word = second.word; name = o }) name
+    ∙ ap (λ (o : Option (List ℕ)). record first { word = second.word; name = second.name; digest = o }) digest
+    ∙ ap (λ (a : List ℕ). record second { address = a }) address
 
--- words that say nothing
-nothing_said : HasParts [] no_parts
-nothing_said = record { settings = []; pieces = nothing; same = IsPermutation-refl [] }
+one_id : (told : Told) (first second : ℕ) → IsIdOf told first → IsIdOf told second → first ≡ second
+one_id told first second is other =
+    let both : Some is.digits ≡ Some other.digits = sym is.operand_is ∙ other.operand_is in
+    let same : other.digits ≡ is.digits = cc in
+    one_number is.digits first second is.is_id (subst (λ (d : List ℕ). IsNumber d second) same other.is_id)
 
-pub list_said : (rest : List (List ℕ)) → length rest < 1 → IsCommand (codes "list") (codes "list" ∷ rest) no_parts
-list_said rest short = record { rest = rest; is = refl; has = subst (λ (l : List (List ℕ)). HasParts l no_parts) (sym (empty_words rest short)) nothing_said }
+one_made : (told : Told) (a b : Asked) → command_of a ≡ command_of b → Makes a told → Makes b told → b ≡ a
+one_made told (Gets wish slices) (Gets other many) same is again =
+    ap (λ (w : WishOf). Gets w many) (one_wish told other wish again.0 is.0) ∙ ap (Gets wish) (one_slices told.slices many slices again.1 is.1)
+one_made told (Gets wish slices) other same is again = absurd cc
+one_made told (Adds wish) (Adds other) same is again = ap Adds (one_wish told other wish again is)
+one_made told (Adds wish) other same is again = absurd cc
+one_made told (Resumes id slices) (Resumes other many) same is again =
+    ap (λ (i : ℕ). Resumes i many) (one_id told other id again.0 is.0) ∙ ap (Resumes id) (one_slices told.slices many slices again.1 is.1)
+one_made told (Resumes id slices) other same is again = absurd cc
+one_made told (Pauses id) (Pauses other) same is again = ap Pauses (one_id told other id again is)
+one_made told (Pauses id) other same is again = absurd cc
+one_made told (Cancels id) (Cancels other) same is again = ap Cancels (one_id told other id again is)
+one_made told (Cancels id) other same is again = absurd cc
+one_made told (Removes id) (Removes other) same is again = ap Removes (one_id told other id again is)
+one_made told (Removes id) other same is again = absurd cc
+one_made told (Shows id) (Shows other) same is again = ap Shows (one_id told other id again is)
+one_made told (Shows id) other same is again = absurd cc
+one_made told Lists Lists same is again = refl
+one_made told Lists other same is again = absurd cc
 
-nothing_more : (rest : List (List ℕ)) → HasParts rest no_parts → rest ≡ []
-nothing_more [] has = refl
-nothing_more (first ∷ rest) has = elim (begins (first ∷ rest) has.settings [] has.pieces first rest refl) [
-  | by_operand more is operand pieces ↦ absurd cc
-  | by_option value after more is set_is named filled pieces ↦ absurd (omega (arith, ap length set_is, length_permutation has.settings [] has.same))
-]
+-- words ask one thing
+pub one_asked : (words : List (List ℕ)) (a b : Asked) → Asks words a → Asks words b → b ≡ a
+one_asked words a b first second =
+    let same = one_told words (command_of a) (command_of b) first.told second.told first.is second.is in
+    one_made first.told a b same.names first.makes (subst (Makes b) (sym same.told) second.makes)
 
-pub no_list : (rest : List (List ℕ)) → 0 < length rest → (listing : Listing) → Asks (codes "list" ∷ rest) listing → ⊥
-no_list rest some (Adds word wish digest address) asks = named_otherwise (codes "list") (codes "add") rest _ (differ (codes "add") (codes "list") refl) asks.says
-no_list rest some Lists asks = absurd (omega (arith, ap length (nothing_more rest (said_by (codes "list") rest no_parts asks)), some))
-no_list rest some (Shows id) asks = named_otherwise (codes "list") (codes "show") rest _ (differ (codes "show") (codes "list") refl) asks.says
+pub alone : (result : Result Command BadWords) (words whole : List (List ℕ)) → words ≡ whole → IfOk result (λ command. Asks whole (asked command)) → IfOk result (λ command. (other : Asked) → Asks words other → other ≡ asked command)
+alone result words whole same ok =
+    IfOk-weaker result (λ command. Asks whole (asked command)) (λ command. (other : Asked) → Asks words other → other ≡ asked command)
+    (λ command asks other again. one_asked whole (asked command) other asks (subst (λ (l : List (List ℕ)). Asks l other) same again)) ok
 
--- a name of no command of the list
-pub no_name : (name : List ℕ) (rest : List (List ℕ)) → name ≢ codes "add" → name ≢ codes "show" → name ≢ codes "list" → (listing : Listing) → Asks (name ∷ rest) listing → ⊥
-no_name name rest not_add not_show not_list (Adds word wish digest address) asks = named_otherwise name (codes "add") rest _ (λ same. not_add (sym same)) asks.says
-no_name name rest not_add not_show not_list Lists asks = named_otherwise name (codes "list") rest no_parts (λ same. not_list (sym same)) asks
-no_name name rest not_add not_show not_list (Shows id) asks = named_otherwise name (codes "show") rest _ (λ same. not_show (sym same)) asks.says
+-- ---- what is told from what was read
 
-pub no_words : (words : List (List ℕ)) → length words < 1 → (listing : Listing) → Asks words listing → ⊥
-no_words words none (Adds word wish digest address) asks = absurd (omega (arith, ap length asks.says.is))
-no_words words none Lists asks = absurd (omega (arith, ap length asks.is))
-no_words words none (Shows id) asks = absurd (omega (arith, ap length asks.says.is))
+pub told_from : (name : CommandName) (words : List (List ℕ)) (operand : Option (List ℕ)) (told : Told) → SaysRest name None words operand → told.word ≡ word_after (codes "--word") words
+    → told.name ≡ word_after (codes "--name") words → told.sha256 ≡ word_after (codes "--sha256") words → told.slices ≡ word_after (codes "--slices") words → told.operand ≡ operand → IsTold name (name_of name ∷ words) told
+told_from name words operand told says word wish sha256 slices last =
+    let values = has_values words says.settings says.operands says.has.pieces in
+    record {
+      settings = says.settings;
+      operand = operand;
+      is = record { rest = words; is = refl; has = subst (AreFor name words says.settings) says.operand_is says.has };
+      told_is = ap (λ (o : Option (List ℕ)). record told { word = o }) (word ∙ values.word)
+          ∙ ap (λ (o : Option (List ℕ)). record told { word = value_of (codes "--word") says.settings; name = o }) (wish ∙ values.name)
+          ∙ ap (λ (o : Option (List ℕ)). record told { word = value_of (codes "--word") says.settings; name = value_of (codes "--name") says.settings; sha256 = o }) (sha256 ∙ values.sha256)
+          ∙ ap (λ (o : Option (List ℕ)). record told { word = value_of (codes "--word") says.settings; name = value_of (codes "--name") says.settings; sha256 = value_of (codes "--sha256") says.settings; slices = o }) (slices ∙ values.slices)
+          ∙ ap (told_by says.settings) last;
+    }
 
--- digits have one digest
-one_digest : (digits first second : Option (List ℕ)) → IsDigestOf digits first → IsDigestOf digits second → first ≡ second
-one_digest None None None is other = refl
-one_digest None None (Some d) is other = absurd other
-one_digest None (Some d) second is other = absurd is
-one_digest (Some digits) None second is other = absurd is
-one_digest (Some digits) (Some d) None is other = absurd other
-one_digest (Some digits) (Some d) (Some e) is other = cc
+pub told_says : (name : CommandName) (words : List (List ℕ)) (told : Told) → IsTold name (name_of name ∷ words) told → (operand : Option (List ℕ)) × SaysRest name None words operand
+told_says name words told is =
+    let rests : is.is.rest ≡ words = cc (is.is.is) in
+    (is.operand, record { settings = is.settings; operands = option_to_list is.operand; has = subst (λ (l : List (List ℕ)). AreFor name l is.settings (option_to_list is.operand)) rests is.is.has; operand_is = refl })
 
--- words ask one thing of the list
-pub one_listing : (words : List (List ℕ)) (first second : Listing) → Asks words first → Asks words second → second ≡ first
-one_listing words (Adds word wish digest address) (Adds word' wish' digest' address') is other =
-    let told : Parts = record { word = word; name = wish; sha256 = is.digits; operand = Some address } in
-    let told' : Parts = record { word = word'; name = wish'; sha256 = other.digits; operand = Some address' } in
-    let both = one_command words (codes "add") (codes "add") told told' is.says other.says in
-    let words_are : word ≡ word' = ap (λ (p : Parts). p.word) both.1 in
-    let wishes_are : wish ≡ wish' = ap (λ (p : Parts). p.name) both.1 in
-    let digits_are : is.digits ≡ other.digits = ap (λ (p : Parts). p.sha256) both.1 in
-    let addresses_are : Some address ≡ Some address' = ap (λ (p : Parts). p.operand) both.1 in
-    let digests_are : digest ≡ digest' = one_digest other.digits digest digest' (subst (λ (d : Option (List ℕ)). IsDigestOf d digest) digits_are is.is_digest) other.is_digest in
-    cc
-one_listing words (Adds word wish digest address) Lists is other = let both = one_command words (codes "add") (codes "list") _ _ is.says other in absurd (differ (codes "add") (codes "list") refl both.0)
-one_listing words (Adds word wish digest address) (Shows id) is other = let both = one_command words (codes "add") (codes "show") _ _ is.says other.says in absurd (differ (codes "add") (codes "show") refl both.0)
-one_listing words Lists (Adds word wish digest address) is other = let both = one_command words (codes "list") (codes "add") _ _ is other.says in absurd (differ (codes "list") (codes "add") refl both.0)
-one_listing words Lists Lists is other = refl
-one_listing words Lists (Shows id) is other = let both = one_command words (codes "list") (codes "show") _ _ is other.says in absurd (differ (codes "list") (codes "show") refl both.0)
-one_listing words (Shows id) (Adds word wish digest address) is other = let both = one_command words (codes "show") (codes "add") _ _ is.says other.says in absurd (differ (codes "show") (codes "add") refl both.0)
-one_listing words (Shows id) Lists is other = let both = one_command words (codes "show") (codes "list") _ _ is.says other in absurd (differ (codes "show") (codes "list") refl both.0)
-one_listing words (Shows id) (Shows id') is other =
-    let both = one_command words (codes "show") (codes "show") (record no_parts { operand = Some is.digits }) (record no_parts { operand = Some other.digits }) is.says other.says in
-    let digits_are : Some is.digits ≡ Some other.digits = ap (λ (p : Parts). p.operand) both.1 in
-    let same : is.digits ≡ other.digits = cc in
-    let first = is.is_id.value in
-    let second = other.is_id.value in
-    cc
+-- ---- refusals
 
-pub alone : (result : Option ListCommand) (words whole : List (List ℕ)) → words ≡ whole → IfSome result (λ command. Asks whole (asked command)) → IfSome result (λ command. (other : Listing) → Asks words other → other ≡ asked command)
-alone result words whole same some =
-    IfSome_then result some (λ command asks other again. one_listing whole (asked command) other asks (subst (λ (l : List (List ℕ)). Asks l other) same again))
+pub no_words : (words : List (List ℕ)) → length words < 1 → (other : Asked) → Asks words other → ⊥
+no_words words none other asks = absurd (omega (arith, ap length asks.is.is.is, none))
 
--- ---- get
+pub no_name : (words rest : List (List ℕ)) (first : List ℕ) → words ≡ first ∷ rest → ((name : CommandName) → first ≢ name_of name) → (other : Asked) → Asks words other → ⊥
+no_name words rest first are none other asks =
+    let same : first ≡ name_of (command_of other) = cc (are, asks.is.is.is) in
+    none (command_of other) same
 
-pub get_said : (rest : List (List ℕ)) (name address : List ℕ) → IsGet (codes "get" ∷ rest) name address → HasParts rest (record no_parts { name = Some name; operand = Some address })
-get_said rest name address get = said_by (codes "get") rest (record no_parts { name = Some name; operand = Some address }) get.says
+-- words of one command ask what it makes of what they tell
+pub made_of : (name : CommandName) (words : List (List ℕ)) (told : Told) → IsTold name words told → (other : Asked) → Asks words other → IsMade name told other
+made_of name words told is other asks =
+    let same = one_told words name (command_of other) told asks.told is asks.is in
+    record { named = sym same.names; makes = subst (Makes other) (sym same.told) asks.makes }
 
-pub get_of_parts : (rest : List (List ℕ)) (parts : Parts) → HasParts rest parts → (name address : List ℕ) → IsGet (codes "get" ∷ rest) name address → IsGetOf parts name address
-get_of_parts rest parts has name address get = record { is = one_reading rest parts (record no_parts { name = Some name; operand = Some address }) has (get_said rest name address get); is_name = get.is_name }
+pub asks_made : (name : CommandName) (words : List (List ℕ)) (told : Told) → IsTold name words told → (a : Asked) → IsMade name told a → Asks words a
+asks_made name words told is a made = record { told = told; is = subst (λ (n : CommandName). IsTold n words told) (sym made.named) is; makes = made.makes }
 
--- words are one get
-pub one_get : (words : List (List ℕ)) (name address other there : List ℕ) → IsGet words name address → IsGet words other there → name ≡ other
-one_get words name address other there first second =
-    let both = one_command words (codes "get") (codes "get") (record no_parts { name = Some name; operand = Some address }) (record no_parts { name = Some other; operand = Some there }) first.says second.says in
-    let names : Some name ≡ Some other = ap (λ (p : Parts). p.name) both.1 in
-    cc
+pub untold : (name : CommandName) (rest : List (List ℕ)) → ((told : Told) → IsTold name (name_of name ∷ rest) told → ⊥) → (other : Asked) → Asks (name_of name ∷ rest) other → ⊥
+untold name rest none other asks =
+    let names : name_of (command_of other) ≡ name_of name = cc (asks.is.is.is) in
+    none asks.told (subst (λ (n : CommandName). IsTold n (name_of name ∷ rest) asks.told) (one_name (command_of other) name names) asks.is)
 
--- the words of `get` are no command of the list
-pub no_listing : (words : List (List ℕ)) (name address : List ℕ) (listing : Listing) → IsGet words name address → Asks words listing → ⊥
-no_listing words name address (Adds word wish digest to) get asks = let both = one_command words (codes "get") (codes "add") _ _ get.says asks.says in differ (codes "get") (codes "add") refl both.0
-no_listing words name address Lists get asks = let both = one_command words (codes "get") (codes "list") _ _ get.says asks in differ (codes "get") (codes "list") refl both.0
-no_listing words name address (Shows id) get asks = let both = one_command words (codes "get") (codes "show") _ _ get.says asks.says in differ (codes "get") (codes "show") refl both.0
+-- ---- what each command makes
 
-pub on_err : {T E : Type 0} (result : Result T E) (P Q : Type 0) → OnErr result P → (P → Q) → OnErr result Q
-on_err (Ok x) P Q is leads = is
-on_err (Err e) P Q is leads = leads is
+pub no_get : (told : Told) → ((wish : WishOf) (slices : ℕ) → IsWish told wish → IsSlices told.slices slices → ⊥) → (other : Asked) → IsMade Get told other → ⊥
+no_get told none (Gets wish slices) made = none wish slices made.makes.0 made.makes.1
+no_get told none other made = let named = made.named in absurd cc
+
+pub no_add : (told : Told) → ((wish : WishOf) → IsWish told wish → ⊥) → (other : Asked) → IsMade Add told other → ⊥
+no_add told none (Adds wish) made = none wish made.makes
+no_add told none other made = let named = made.named in absurd cc
+
+pub no_resume : (told : Told) → ((id slices : ℕ) → IsIdOf told id → IsSlices told.slices slices → ⊥) → (other : Asked) → IsMade Resume told other → ⊥
+no_resume told none (Resumes id slices) made = none id slices made.makes.0 made.makes.1
+no_resume told none other made = let named = made.named in absurd cc
+
+pub no_list : (told : Told) → (told.operand ≢ None) → (other : Asked) → IsMade ListAll told other → ⊥
+no_list told some Lists made = some made.makes
+no_list told some other made = let named = made.named in absurd cc
+
+-- commands that are told an id and nothing else
+abbrev pub ById : CommandName → Type 0
+ById Pause = Unit {0}
+ById Cancel = Unit {0}
+ById Remove = Unit {0}
+ById Show = Unit {0}
+ById Get = ⊥
+ById Add = ⊥
+ById Resume = ⊥
+ById ListAll = ⊥
+
+pub no_id : (name : CommandName) (told : Told) → ById name → ((id : ℕ) → IsIdOf told id → ⊥) → (other : Asked) → IsMade name told other → ⊥
+no_id name told by none (Pauses id) made = none id made.makes
+no_id name told by none (Cancels id) made = none id made.makes
+no_id name told by none (Removes id) made = none id made.makes
+no_id name told by none (Shows id) made = none id made.makes
+no_id name told by none (Gets wish slices) made = subst ById (sym made.named) by
+no_id name told by none (Adds wish) made = subst ById (sym made.named) by
+no_id name told by none (Resumes id slices) made = subst ById (sym made.named) by
+no_id name told by none Lists made = subst ById (sym made.named) by

@@ -1,8 +1,5 @@
-pub mod Name
 pub mod Pieces
+pub mod Table
+pub mod Values
+pub mod Asked
 pub mod Reading
-pub mod Command
-pub mod Listing
-pub mod Part
-pub mod Printed
-pub mod ListLines

@@ -1,7 +1,8 @@
 -- What stands after a command's name: options and operands, in any order.
-use Rattle.std.specs.Prelude.{◌≡◌, ◌≢◌, ℕ, ◌<◌, List, [], ◌∷◌, ◌++◌, length, slice_index, codes, Option, Some, None, IsPermutation}
-use Rattle.std.specs.Option.{option_copied, option_to_list}
-use Rattle.dm_words.specs.declared.pieces.Pieces.{Pieces}
+use Rattle.std.specs.Prelude.{◌≡◌, ◌≢◌, ℕ, ◌<◌, List, [], ◌∷◌, ◌++◌, length, slice_index, codes, Option}
+use Rattle.std.specs.List.{All, find}
+use Rattle.std.specs.Option.{option_map}
+use Rattle.std.specs.Str.{bytes_eq}
 
 -- an operand or a value is not empty and begins with no hyphen
 pub record IsOperand (word : List ℕ) : Type 0 where
@@ -26,42 +27,11 @@ pub data ArePieces : List (List ℕ) → List Setting → List (List ℕ) → Ty
   with_option : (name value : List ℕ) (rest : List (List ℕ)) (settings : List Setting) (operands : List (List ℕ)) → IsOption name → IsOperand value → ArePieces rest settings operands
       → ArePieces (name ∷ value ∷ rest) (record { option = name; value = value } ∷ settings) operands
 
--- what is said with a command: the value of each option, and the operand, where they are there
-pub record Parts : Type 0 where
-  pub word : Option (List ℕ)
-  pub name : Option (List ℕ)
-  pub sha256 : Option (List ℕ)
-  pub operand : Option (List ℕ)
+-- no option stands twice
+abbrev pub AreOnce : List Setting → Type 0
+AreOnce [] = Unit {0}
+AreOnce (setting ∷ rest) = All (λ other. other.option ≢ setting.option) rest × AreOnce rest
 
--- nothing is said
-abbrev pub no_parts : Parts
-no_parts = record { word = None; name = None; sha256 = None; operand = None }
-
--- an option, where it has a value
-abbrev pub set : List ℕ → Option (List ℕ) → List Setting
-set option None = []
-set option (Some value) = record { option = option; value = value } ∷ []
-
--- the options that are there, each once
-abbrev pub settings_of : Parts → List Setting
-settings_of parts = set (codes "--word") parts.word ++ (set (codes "--name") parts.name ++ set (codes "--sha256") parts.sha256)
-
--- the operand, where it is there
-abbrev pub operands_of : Parts → List (List ℕ)
-operands_of parts = option_to_list parts.operand
-
--- The words say these parts: they are pieces, whose options are those of the parts in some order. So no option repeats, none is unknown, and there is one operand or none.
-pub record HasParts (words : List (List ℕ)) (parts : Parts) : Type 0 where
-  pub settings : List Setting
-  pub pieces : ArePieces words settings (operands_of parts)
-  pub same : IsPermutation settings (settings_of parts)
-
--- the words are this command's name and say these parts
-pub record IsCommand (name : List ℕ) (words : List (List ℕ)) (parts : Parts) : Type 0 where
-  pub rest : List (List ℕ)
-  pub is : words ≡ name ∷ rest
-  pub has : HasParts rest parts
-
--- what was read
-abbrev pub parts_of : Pieces → Parts
-parts_of pieces = record { word = option_copied pieces.word; name = option_copied pieces.name; sha256 = option_copied pieces.sha256; operand = option_copied pieces.operand }
+-- what an option is given, where it is there
+abbrev pub value_of : List ℕ → List Setting → Option (List ℕ)
+value_of option settings = option_map (λ setting. setting.value) (find (λ setting. bytes_eq setting.option option) settings)

@@ -1,58 +1,181 @@
-ghost use Rattle.std.specs.Prelude.{◌≡◌, ℕ, List, IfOk, OnErr, ◌∷◌, codes};
-ghost use Rattle.dm_words.specs.Command.{IsGet};
-ghost use Rattle.dm_words.specs.Pieces.{parts_of};
-ghost use Rattle.dm_words.specs.Reading.{IsGetOf};
+ghost use Rattle.std.specs.Prelude.{◌≡◌, ◌∷◌, IfOk, OnErr, IfSome, IfNone, ℕ};
+ghost use Rattle.dm_words.specs.Asked.{Asked, Asks, IsIdOf, IsWish, WishOf, asked, wish_of};
+ghost use Rattle.dm_words.specs.Reading.{IsMade, told_of};
+ghost use Rattle.dm_words.specs.Table.{name_of};
+ghost use Rattle.dm_words.specs.declared.table.CommandName.TheVariants as names;
 
-use crate::is_name;
+use crate::CommandName;
 use crate::pieces::{Pieces, read_pieces};
-use dm_types::Text;
+use crate::values::{may_be_name, may_be_word, read_digest, read_number, read_slices};
+use dm_types::{ItemId, Text};
 
-/// Bring the content of an address into the file of this name. It borrows from the words.
+/// An item that is wanted. It borrows from the words.
 #[derive(Clone, Copy, Debug, PartialEq, Eq)]
-pub struct Get<'a> {
-    pub name: &'a [u8],
+pub struct Wish<'a> {
+    /// The user's word for it.
+    pub word: Option<&'a [u8]>,
+    /// The name that its file is to have.
+    pub name: Option<&'a [u8]>,
+    /// The SHA-256 that its content is to have.
+    pub digest: Option<[u8; 32]>,
+    /// Where it is brought from. It isn't judged here.
     pub address: &'a [u8],
+}
+
+/// What words ask. It borrows from them.
+#[derive(Clone, Copy, Debug, PartialEq, Eq)]
+pub enum Command<'a> {
+    /// Bring the item, in so many slices.
+    Get(Wish<'a>, u32),
+    /// Take the item on.
+    Add(Wish<'a>),
+    /// Go on with the item of this id, in so many slices.
+    Resume(ItemId, u32),
+    Pause(ItemId),
+    Cancel(ItemId),
+    Remove(ItemId),
+    /// Show the item with this id.
+    Show(ItemId),
+    /// Print a line for each item.
+    List,
 }
 
 /// The words are no command.
 #[derive(Clone, Copy, Debug, PartialEq, Eq)]
 pub struct BadWords;
 
-/// The command that the words are. The first word says which, and each command reads its own. There
-/// is one so far: `get`, with `--name NAME` and an address, in any order.
-pub fn read_command(words: &[Text]) -> Result<Get<'_>, BadWords>
-    ensures ok { IfOk result (λ get. IsGet words.now get.name.now get.address.now) }
-    ensures err { OnErr result ((name address : List ℕ) → ¬ IsGet words.now name address) }
+/// The command that the words are: its name, and then its options and its operand, in any order. The
+/// options and operands of each are those of its row in docs/RULES.md.
+pub fn read_command(words: &[Text]) -> Result<Command<'_>, BadWords>
+    ensures ok { IfOk result (λ command. Asks words.now (asked command)) }
+    ensures err { OnErr result ((other : Asked) → ¬ Asks words.now other) }
+
+    // The words ask nothing else.
+    ensures alone { IfOk result (λ command. (other : Asked) → Asks words.now other → other ≡ asked command) }
 {
     match words {
-        [first, rest @ ..] if first.is(b"get") => read_get(rest),
-        _ => Err(BadWords),
+        [] => Err(BadWords),
+        [first, rest @ ..] => match CommandName::of(first) {
+            Some(name) => read_named(name, rest),
+            None => Err(BadWords),
+        },
     }
 }
 
-/// What stands after `get`: a name and an address.
-fn read_get(words: &[Text]) -> Result<Get<'_>, BadWords>
-    ensures ok { IfOk result (λ get. IsGet (codes "get" ∷ words.now) get.name.now get.address.now) }
-    ensures err { OnErr result ((name address : List ℕ) → ¬ IsGet (codes "get" ∷ words.now) name address) }
+/// The command of this name, with what stands after it.
+fn read_named(name: CommandName, words: &[Text]) -> Result<Command<'_>, BadWords>
+    ensures ok { IfOk result (λ command. Asks (name_of name ∷ words.now) (asked command)) }
+    ensures err { OnErr result ((other : Asked) → ¬ Asks (name_of name ∷ words.now) other) }
 {
-    match read_pieces(words) {
-        Some(pieces) => get_of(pieces),
+    match read_pieces(name, words) {
+        Some(pieces) => make(name, pieces),
         None => Err(BadWords),
     }
 }
 
-/// A name and an address, and nothing else.
-fn get_of(pieces: Pieces<'_>) -> Result<Get<'_>, BadWords>
-    ensures ok { IfOk result (λ get. IsGetOf (parts_of pieces.entry) get.name.now get.address.now) }
-    ensures err { OnErr result ((name address : List ℕ) → ¬ IsGetOf (parts_of pieces.entry) name address) }
+/// The command of this name that the pieces make.
+fn make(name: CommandName, pieces: Pieces<'_>) -> Result<Command<'_>, BadWords>
+    ensures ok { IfOk result (λ command. IsMade name (told_of pieces.entry) (asked command)) }
+    ensures err { OnErr result ((other : Asked) → ¬ IsMade name (told_of pieces.entry) other) }
 {
-    match pieces {
-        Pieces {
-            word: None,
-            name: Some(name),
-            sha256: None,
-            operand: Some(address),
-        } if is_name(name) => Ok(Get { name, address }),
-        _ => Err(BadWords),
+    match name {
+        CommandName::Get => make_get(pieces),
+        CommandName::Add => make_add(pieces),
+        CommandName::Resume => make_resume(pieces),
+        CommandName::Pause => match id_of(pieces) {
+            Some(id) => Ok(Command::Pause(id)),
+            None => Err(BadWords),
+        },
+        CommandName::Cancel => match id_of(pieces) {
+            Some(id) => Ok(Command::Cancel(id)),
+            None => Err(BadWords),
+        },
+        CommandName::Remove => match id_of(pieces) {
+            Some(id) => Ok(Command::Remove(id)),
+            None => Err(BadWords),
+        },
+        CommandName::Show => match id_of(pieces) {
+            Some(id) => Ok(Command::Show(id)),
+            None => Err(BadWords),
+        },
+        CommandName::List => match pieces.operand {
+            None => Ok(Command::List),
+            Some(_) => Err(BadWords),
+        },
+    }
+}
+
+fn make_get(pieces: Pieces<'_>) -> Result<Command<'_>, BadWords>
+    ensures ok { IfOk result (λ command. IsMade names.Get (told_of pieces.entry) (asked command)) }
+    ensures err { OnErr result ((other : Asked) → ¬ IsMade names.Get (told_of pieces.entry) other) }
+{
+    let slices = match read_slices(pieces.slices) {
+        Some(slices) => slices,
+        None => return Err(BadWords),
+    };
+    match wish_of(pieces) {
+        Some(wish) => Ok(Command::Get(wish, slices)),
+        None => Err(BadWords),
+    }
+}
+
+fn make_add(pieces: Pieces<'_>) -> Result<Command<'_>, BadWords>
+    ensures ok { IfOk result (λ command. IsMade names.Add (told_of pieces.entry) (asked command)) }
+    ensures err { OnErr result ((other : Asked) → ¬ IsMade names.Add (told_of pieces.entry) other) }
+{
+    match wish_of(pieces) {
+        Some(wish) => Ok(Command::Add(wish)),
+        None => Err(BadWords),
+    }
+}
+
+fn make_resume(pieces: Pieces<'_>) -> Result<Command<'_>, BadWords>
+    ensures ok { IfOk result (λ command. IsMade names.Resume (told_of pieces.entry) (asked command)) }
+    ensures err { OnErr result ((other : Asked) → ¬ IsMade names.Resume (told_of pieces.entry) other) }
+{
+    let slices = match read_slices(pieces.slices) {
+        Some(slices) => slices,
+        None => return Err(BadWords),
+    };
+    match id_of(pieces) {
+        Some(id) => Ok(Command::Resume(id, slices)),
+        None => Err(BadWords),
+    }
+}
+
+/// The item that is wanted, where the operand is there and each value keeps its rule.
+fn wish_of(pieces: Pieces<'_>) -> Option<Wish<'_>>
+    ensures some { IfSome result (λ wish. IsWish (told_of pieces.entry) (wish_of wish)) }
+    ensures none { IfNone result ((wish : WishOf) → ¬ IsWish (told_of pieces.entry) wish) }
+{
+    let address = match pieces.operand {
+        Some(address) => address,
+        None => return None,
+    };
+    if !may_be_word(pieces.word) || !may_be_name(pieces.name) {
+        return None;
+    }
+    match read_digest(pieces.sha256) {
+        Some(digest) => Some(Wish {
+            word: pieces.word,
+            name: pieces.name,
+            digest,
+            address,
+        }),
+        None => None,
+    }
+}
+
+/// The id that the operand is.
+fn id_of(pieces: Pieces<'_>) -> Option<ItemId>
+    ensures some { IfSome result (λ id. IsIdOf (told_of pieces.entry) id.0) }
+    ensures none { IfNone result ((id : ℕ) → ¬ IsIdOf (told_of pieces.entry) id) }
+{
+    match pieces.operand {
+        Some(digits) => match read_number(digits) {
+            Some(id) => Some(ItemId(id)),
+            None => None,
+        },
+        None => None,
     }
 }

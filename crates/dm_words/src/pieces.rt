@@ -1,9 +1,14 @@
 //! What stands after a command's name, in any order: options, each a word `--x` and one value word,
 //! and an operand.
-ghost use Rattle.std.specs.Prelude.{◌≡◌, ◌≢◌, ◌↔◌, ℕ, List, None, Some, IfSome, IfNone, IsTrue};
-ghost use Rattle.dm_words.specs.Pieces.{HasParts, IsOperand, Parts, no_parts, parts_of};
-ghost use Rattle.dm_words.specs.Reading.{IsWithOperand, IsWithOption, SaysRest};
+ghost use Rattle.std.specs.Prelude.{◌≡◌, ◌↔◌, ◌∷◌, ℕ, List, Option, IfSome, IfNone, IsTrue, slice_get};
+ghost use Rattle.std.specs.List.{Any};
+ghost use Rattle.std.specs.Option.{option_copied};
+ghost use Rattle.dm_words.specs.Asked.{IsTold, Told};
+ghost use Rattle.dm_words.specs.Pieces.{IsOperand};
+ghost use Rattle.dm_words.specs.Reading.{IsSetting, SaysRest, told_of, word_after};
+ghost use Rattle.dm_words.specs.Table.{name_of};
 
+use crate::CommandName;
 use dm_types::Text;
 
 /// The value of each option, and the operand, where they are there. It borrows from the words.
@@ -12,114 +17,108 @@ pub(crate) struct Pieces<'a> {
     pub word: Option<&'a [u8]>,
     pub name: Option<&'a [u8]>,
     pub sha256: Option<&'a [u8]>,
+    pub slices: Option<&'a [u8]>,
     pub operand: Option<&'a [u8]>,
 }
 
-impl<'a> Pieces<'a> {
-    fn new() -> Pieces<'a>
-        ensures { parts_of result ≡ no_parts }
-    {
-        Pieces {
-            word: None,
-            name: None,
-            sha256: None,
-            operand: None,
-        }
-    }
-
-    /// With the operand, which was not there.
-    fn with_operand(self, operand: &'a [u8]) -> Option<Pieces<'a>>
-        ensures some { IfSome result (λ all. IsWithOperand (parts_of self.entry) operand.now (parts_of all)) }
-        ensures none { IfNone result ((parts_of self.entry).operand ≢ None) }
-    {
-        match self.operand {
-            None => Some(Pieces {
-                operand: Some(operand),
-                ..self
-            }),
-            Some(_) => None,
-        }
-    }
-
-    /// With the value of an option, which is one of those that there are, and was not there.
-    fn with_option(self, option: &Text, value: &'a [u8]) -> Option<Pieces<'a>>
-        ensures some { IfSome result (λ all. IsWithOption (parts_of self.entry) option.now value.now (parts_of all)) }
-        ensures none { IfNone result ((all : Parts) → ¬ IsWithOption (parts_of self.entry) option.now value.now all) }
-    {
-        let value = Some(value);
-        if option.is(b"--word") && self.word.is_none() {
-            Some(Pieces {
-                word: value,
-                ..self
-            })
-        } else if option.is(b"--name") && self.name.is_none() {
-            Some(Pieces {
-                name: value,
-                ..self
-            })
-        } else if option.is(b"--sha256") && self.sha256.is_none() {
-            Some(Pieces {
-                sha256: value,
-                ..self
-            })
-        } else {
-            None
-        }
-    }
-
-    /// The operand, where nothing is said beside it.
-    pub fn only_operand(self) -> Option<&'a [u8]>
-        ensures some { IfSome result (λ operand. parts_of self.entry ≡ record no_parts { operand = Some operand.now }) }
-        ensures none { IfNone result ((operand : List ℕ) → parts_of self.entry ≢ record no_parts { operand = Some operand }) }
-    {
-        match self {
-            Pieces {
-                word: None,
-                name: None,
-                sha256: None,
-                operand,
-            } => operand,
-            _ => None,
-        }
-    }
-}
-
-/// Reads what stands after a command's name. There is nothing where an option repeats, is unknown or
-/// has no value, where a value or an operand is empty or begins with a hyphen, and where there are two
-/// operands.
-pub(crate) fn read_pieces(words: &[Text]) -> Option<Pieces<'_>>
-    ensures some { IfSome result (λ pieces. HasParts words.now (parts_of pieces)) }
-    ensures none { IfNone result ((parts : Parts) → ¬ HasParts words.now parts) }
+/// Reads what stands after a command's name. There is nothing where an option repeats, is none of
+/// the command's or has no value, where a value or an operand is empty or begins with a hyphen, and
+/// where there are two operands.
+pub(crate) fn read_pieces(name: CommandName, words: &[Text]) -> Option<Pieces<'_>>
+    ensures some { IfSome result (λ pieces. IsTold name (name_of name ∷ words.now) (told_of pieces)) }
+    ensures none { IfNone result ((told : Told) → ¬ IsTold name (name_of name ∷ words.now) told) }
 {
-    read_more(Pieces::new(), words)
+    let operand = match read_rest(name, None, words) {
+        Some(operand) => operand,
+        None => return None,
+    };
+    let word = word_after(words, b"--word");
+    let wish = word_after(words, b"--name");
+    let sha256 = word_after(words, b"--sha256");
+    let slices = word_after(words, b"--slices");
+    Some(Pieces {
+        word,
+        name: wish,
+        sha256,
+        slices,
+        operand,
+    })
 }
 
-/// Reads further pieces. Each call fills one of four places, so they are at most five deep.
-fn read_more<'a>(pieces: Pieces<'a>, words: &'a [Text]) -> Option<Pieces<'a>>
-    ensures some { IfSome result (λ all. SaysRest (parts_of pieces.entry) words.now (parts_of all)) }
-    ensures none { IfNone result ((parts : Parts) → ¬ SaysRest (parts_of pieces.entry) words.now parts) }
+/// The operand, where there is one, of further pieces, behind one that was met. Each call meets an
+/// operand or an option that were not met, so they are few.
+fn read_rest<'a>(
+    name: CommandName,
+    operand: Option<&'a [u8]>,
+    words: &'a [Text],
+) -> Option<Option<&'a [u8]>>
+    ensures some { IfSome result (λ all. SaysRest name (option_copied operand.entry) words.now (option_copied all)) }
+    ensures none { IfNone result ((all : Option (List ℕ)) → ¬ SaysRest name (option_copied operand.entry) words.now all) }
 {
     match words {
-        [] => Some(pieces),
-        [operand, rest @ ..] if is_operand(operand.bytes()) => {
-            match pieces.with_operand(operand.bytes()) {
-                Some(pieces) => read_more(pieces, rest),
-                None => None,
+        [] => Some(operand),
+        [first, rest @ ..] => {
+            let word = first.bytes();
+            if is_operand(word) {
+                return match operand {
+                    None => read_rest(name, Some(word), rest),
+                    Some(_) => None,
+                };
+            }
+            match rest {
+                [] => None,
+                [value, after @ ..] => {
+                    if is_setting(name, first, value, after) {
+                        read_rest(name, operand, after)
+                    } else {
+                        None
+                    }
+                }
             }
         }
-        [option, value, rest @ ..] if is_operand(value.bytes()) => {
-            match pieces.with_option(option, value.bytes()) {
-                Some(pieces) => read_more(pieces, rest),
-                None => None,
-            }
-        }
-        _ => None,
     }
+}
+
+/// Whether this is an option of the command with a value, which isn't set again in what follows.
+fn is_setting(name: CommandName, option: &Text, value: &Text, rest: &[Text]) -> bool
+    ensures { IsTrue result ↔ IsSetting name option.now value.now rest.now }
+{
+    is_operand(value.bytes()) && name.takes(option) && !has_word(rest, option)
+}
+
+/// Whether one of the words is this one.
+fn has_word(words: &[Text], word: &Text) -> bool
+    ensures { IsTrue result ↔ Any (λ other. other ≡ word.now) words.now }
+{
+    words.iter().any(|other| other.same(word))
 }
 
 /// An operand or a value is not empty and begins with no hyphen.
-pub(crate) fn is_operand(word: &[u8]) -> bool
+fn is_operand(word: &[u8]) -> bool
     ensures { IsTrue result ↔ IsOperand word.now }
 {
     !matches!(word, [] | [b'-', ..])
+}
+
+/// The word behind the first that is the option.
+fn word_after<'a>(words: &'a [Text], option: &[u8]) -> Option<&'a [u8]>
+    ensures { option_copied result ≡ word_after option.now words.now }
+{
+    let mut rest = words;
+    while let [word, after @ ..] = rest {
+        if word.is(option) {
+            return first_of(after);
+        }
+        rest = after;
+    }
+    None
+}
+
+fn first_of(words: &[Text]) -> Option<&[u8]>
+    ensures { option_copied result ≡ slice_get words.now 0 }
+{
+    match words {
+        [] => None,
+        [word, ..] => Some(word.bytes()),
+    }
 }

@@ -1,5 +1,5 @@
 use Rattle.std.specs.Option.{option_copied}
-use Rattle.dm_words.specs.Listing.{adds_item}
+use Rattle.dm_list.specs.Listed.{adds_item}
 use Rattle.dm_list.proofs.Moments.{no_moments, open_moments}
 use Rattle.dm_list.proofs.Tries.{add_leaves, add_ran}
 use Rattle.dm_list.proofs.Unopened.{unread_says}

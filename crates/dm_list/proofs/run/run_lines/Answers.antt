@@ -1,5 +1,5 @@
 use Rattle.std.proofs.Common.{refl, subst}
-use Rattle.dm_words.specs.Listing.{Lists}
+use Rattle.dm_list.specs.Listed.{Lists}
 use Rattle.dm_item.specs.Listing.{Listing}
 use Rattle.dm_list.specs.Says.{ListSays}
 use Rattle.dm_list.proofs.Looks.{list_looks, look_ran}

@@ -1,5 +1,5 @@
 use Rattle.std.proofs.Common.{refl, subst}
-use Rattle.dm_words.specs.Listing.{Shows}
+use Rattle.dm_list.specs.Listed.{Shows}
 use Rattle.dm_item.specs.Listing.{Listing}
 use Rattle.dm_list.specs.Says.{ShowSays}
 use Rattle.dm_list.proofs.Looks.{show_looks, look_ran}

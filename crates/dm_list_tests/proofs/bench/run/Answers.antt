@@ -1,4 +1,4 @@
-use Rattle.dm_words.specs.Listing.{asked}
+use Rattle.dm_list.specs.Listed.{asked}
 use Rattle.dm_list.proofs.Words.{good_words}
 use Rattle.dm_list_tests.proofs.bench.run.Goals as goal
 

@@ -1,6 +1,11 @@
-use Rattle.dm_words.proofs.MorePieces.{from_start, if_none}
-use Rattle.dm_words.specs.Pieces.{parts_of}
+use Rattle.std.proofs.Common.{refl}
+use Rattle.std.specs.Option.{option_copied}
+use Rattle.dm_words.proofs.OneCommand.{told_from, told_says}
 use Rattle.dm_words.proofs.pieces.read_pieces.Goals as goal
 
-pub returns-clause-none : goal.returns-clause-none
-returns-clause-none c = if_none c.read_more.result _ _ c.read_more.ensures.none (λ none parts has. none parts (from_start (parts_of c.new.result) c.args.words.now parts c.new.ensures has))
+pub returns-clause-some : goal.returns-clause-some
+returns-clause-some c =
+    told_from c.args.name c.args.words.now (option_copied c.in-Some.operand) _ c.in-Some.ensures.some c.word_after-word.ensures c.word_after-wish.ensures c.word_after-sha256.ensures c.word_after-slices.ensures refl
+
+pub returns-in-None-clause-none : goal.returns-in-None-clause-none
+returns-in-None-clause-none c = λ told is. let found = told_says c.args.name c.args.words.now told is in c.in-None.ensures.none found.0 found.1
