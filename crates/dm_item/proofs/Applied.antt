@@ -6,14 +6,15 @@ use Rattle.dm_types.specs.declared.item.Item.{Item}
 use Rattle.dm_types.specs.declared.item.ItemId.{ItemId}
 use Rattle.dm_types.specs.declared.entry.Entry.{Entry}
 use Rattle.dm_types.specs.declared.entry.Entry.TheVariants as entries
+use Rattle.dm_item.proofs.Basics.{eq_false, eq_other, eq_same, first_none}
 use Rattle.dm_item.specs.History.{first_some, map_some}
 use Rattle.dm_item.specs.Fields.{added_item, id_of, is_for, is_gone}
 use Rattle.dm_item.specs.Row.{changed, stopped_item}
 use Rattle.dm_item.specs.Restored.{IsAbove}
 use Rattle.dm_item.specs.Listing.{Listing, Meets, applied, changed_at, item_in, items_after, without}
 use Rattle.dm_item.specs.Kept.{IsNumbered}
-use Rattle.dm_item.proofs.Below.{effect, eq_false, eq_same, eq_true, in-append}
-use Rattle.dm_item.proofs.Numbers.{changed-id}
+use Rattle.dm_item.proofs.Below.{effect, in-append}
+use Rattle.dm_item.proofs.Numbers.{changed-id, numbered-count}
 
 first_same : (found other : Option Item) → found ≡ None → first_some found other ≡ other
 first_same found other none = ap (λ (x : Option Item). first_some x other) none
@@ -26,14 +27,10 @@ absent_low k low (item ∷ rest) next below numbered =
     ap (λ (b : Bool). cond b (Some item) (item_in k rest)) (eq_false item.id.0 k (λ (same : item.id.0 ≡ k). omega arith))
     ∙ absent_low k (item.id.0 + 1) rest next (omega arith) numbered.1
 
-next_above : (low : ℕ) (items : List Item) (next : ℕ) → IsNumbered low items next → low ≤ next
-next_above low [] next numbered = numbered
-next_above low (item ∷ rest) next numbered = let own = numbered.0 in let later = next_above (item.id.0 + 1) rest next numbered.1 in omega arith
-
 absent_high : (k low : ℕ) (items : List Item) (next : ℕ) → next ≤ k → IsNumbered low items next → item_in k items ≡ None
 absent_high k low [] next past numbered = refl
 absent_high k low (item ∷ rest) next past numbered =
-    let later = next_above (item.id.0 + 1) rest next numbered.1 in
+    let later = numbered-count (item.id.0 + 1) rest next numbered.1 in
     ap (λ (b : Bool). cond b (Some item) (item_in k rest)) (eq_false item.id.0 k (λ (same : item.id.0 ≡ k). omega arith))
     ∙ absent_high k (item.id.0 + 1) rest next past numbered.1
 
@@ -109,9 +106,6 @@ beside_without : (id k : ℕ) (items : List Item) → id ≢ k → item_in k (wi
 beside_without id k [] other = refl
 beside_without id k (item ∷ rest) other = without_other id k item rest (item.id.0 == id) refl other (beside_without id k rest other)
 
-eq_other : (n k : ℕ) → (n == k) ≡ false → n ≢ k
-eq_other n k not_same same = false≢true (sym not_same ∙ ap (λ (m : ℕ). n == m) (sym same) ∙ eq_true n)
-
 beside_after : (e : Entry) (id : ItemId) (k : ℕ) (items : List Item) → (id.0 == k) ≡ false → item_in k (items_after e (Some id) items) ≡ item_in k items
 beside_after e id k items is =
     elim (is_gone e) as (λ (b : Bool). item_in k (cond b (without id.0 items) (changed_at e id.0 items)) ≡ item_in k items) [
@@ -123,10 +117,6 @@ beside_after e id k items is =
 in_pushed : (k : ℕ) (items : List Item) (new : Item) → item_in k items ≡ None → (new.id.0 == k) ≡ true → item_in k (items ++ new ∷ []) ≡ Some new
 in_pushed k items new none is =
     in-append k items (new ∷ []) ∙ first_same (item_in k items) (item_in k (new ∷ [])) none ∙ ap (λ (b : Bool). cond b (Some new) None) is
-
-first_none : (found : Option Item) → first_some found None ≡ found
-first_none None = refl
-first_none (Some item) = refl
 
 beside_pushed : (k : ℕ) (items : List Item) (new : Item) → (new.id.0 == k) ≡ false → item_in k (items ++ new ∷ []) ≡ item_in k items
 beside_pushed k items new is =

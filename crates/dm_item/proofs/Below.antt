@@ -2,22 +2,16 @@
 use Rattle.std.proofs.Common.{◌≡◌, ◌≢◌, ℕ, zero, suc, ◌<◌, ◌≤◌, List, [], ◌∷◌, ◌++◌, map, cond, true, false, Bool, ◌==◌, Option, Some, None, inl, inr, refl, ap, sym, subst, ◌∙◌, arith, append_assoc}
 use Rattle.std.specs.Prelude.{option_to_list, option_and_then}
 use Rattle.std.proofs.lemmas.Bool.{cases_lt, cases_eq}
-use Rattle.std.proofs.lemmas.Bool.Decides.{nat_tests}
 use Rattle.std.proofs.lemmas.List.{append-nil}
 use Rattle.dm_types.specs.declared.item.Item.{Item}
 use Rattle.dm_types.specs.declared.item.ItemId.{ItemId}
 use Rattle.dm_types.specs.declared.entry.Entry.{Entry}
+use Rattle.dm_item.proofs.Basics.{eq_false, eq_same, eq_true, some_same}
 use Rattle.dm_item.specs.History.{first_some, map_some}
 use Rattle.dm_item.specs.Fields.{is_gone, items_below}
 use Rattle.dm_item.specs.Row.{changed, stopped_item}
 use Rattle.dm_item.specs.Restored.{IsAbove}
 use Rattle.dm_item.specs.Listing.{changed_at, item_in, items_after, without}
-
-pub eq_true : (n : ℕ) → (n == n) ≡ true
-eq_true n = grind (arith, nat_tests)
-
-pub eq_false : (n m : ℕ) → n ≢ m → (n == m) ≡ false
-eq_false n m other = grind (arith, nat_tests)
 
 -- each item stands under its own id
 pub record IsIndexed (at : ℕ → Option Item) : Type 0 where
@@ -156,9 +150,6 @@ pub record Found (at : ℕ → Option Item) (id n : ℕ) (item : Item) : Type 0 
   pub below : id < n
   pub is : at id ≡ Some item
 
-pub eq_same : (n m : ℕ) → (n == m) ≡ true → n ≡ m
-eq_same n m test = grind (arith, nat_tests)
-
 in_option_at : (at : ℕ → Option Item) (id m : ℕ) (item i : Item) (test : Bool) → at m ≡ Some i → i.id.0 ≡ m → (i.id.0 == id) ≡ test → cond test (Some i) None ≡ Some item → Found at id (suc m) item
 in_option_at at id m item i true is own test here =
     let same : m ≡ id = sym own ∙ eq_same i.id.0 id test in
@@ -190,12 +181,9 @@ above_append_right : (id : ℕ) (items more : List Item) → IsAbove id (items +
 above_append_right id [] more above = above
 above_append_right id (item ∷ rest) more above = above_append_right id rest more above.1
 
-some_same : (i j : Item) → Some i ≡ Some j → i ≡ j
-some_same i j e = cc
-
 above_option : (id : ℕ) (found : Option Item) (item : Item) → found ≡ Some item → IsAbove id (option_to_list found) → item.id.0 < id
 above_option id None item is above = absurd (cc)
-above_option id (Some i) item is above = let same : i.id.0 ≡ item.id.0 = ap (λ (x : Item). x.id.0) (some_same i item is) in let low = above.0 in omega arith
+above_option id (Some i) item is above = let same : i.id.0 ≡ item.id.0 = ap (λ (x : Item). x.id.0) (some_same is) in let low = above.0 in omega arith
 
 pub above_below : (at : ℕ → Option Item) (id n k : ℕ) (item : Item) → IsIndexed at → IsAbove id (items_below at n) → k < n → at k ≡ Some item → k < id
 above_below at id zero k item indexed above low is = absurd (omega arith)

@@ -4,11 +4,11 @@ use Rattle.std.proofs.lemmas.Bool.{false≢true}
 use Rattle.std.proofs.lemmas.List.{reverse-append}
 use Rattle.dm_types.specs.declared.entry.Entry.{Entry}
 use Rattle.dm_types.specs.declared.entry.Entry.TheVariants as entries
+use Rattle.dm_item.proofs.Basics.{eq_same}
 use Rattle.dm_item.specs.Fields.{id_of, is_early, is_early_entry, is_empty, is_for}
 use Rattle.dm_item.specs.Listing.{Listing, Meets, applied, item_in}
 use Rattle.dm_item.specs.Lawful.{History, IsLawful, IsLawfulBack, left_by}
 use Rattle.dm_item.proofs.Applied.{item_after, item_applied, item_beside}
-use Rattle.dm_item.proofs.Below.{eq_same}
 use Rattle.dm_item.proofs.Shorts.{good_lawful}
 use Rattle.dm_item.proofs.Steps.{left_by_step}
 

@@ -18,6 +18,7 @@ use Rattle.dm_types.specs.declared.entry.Entry.{Entry}
 use Rattle.dm_types.specs.declared.entry.Entry.TheVariants as entries
 use Rattle.dm_policy.specs.declared.mode.ModeFacts.{ModeFacts}
 use Rattle.dm_policy.specs.Mode.{by_user, is_immediate, is_last_attempt, mode_by, placed_mode}
+use Rattle.dm_item.proofs.Basics.{none_some, some_same}
 use Rattle.dm_item.specs.History.{count_of, map_some, since, stands, there}
 use Rattle.dm_item.specs.Fields.{base_of, is_began, is_began_by_itself, is_began_by_user, is_gone, is_running, item_at, item_of, items_below, next_of, own, stopped}
 use Rattle.dm_item.specs.Row.{Further, IsBegun, allows, changed, facts_of, mode_in, mode_of_item, target_of, stopped_item}
@@ -26,12 +27,6 @@ use Rattle.dm_item.proofs.Below.{effect}
 use Rattle.dm_item.proofs.Looks.{Fresh, opened, count-fresh, newest-fresh, present}
 use Rattle.dm_item.proofs.Sounds.{changes, never_complete}
 use Rattle.dm_item.proofs.Steps.{StepAt, elsewhere, named_here, opened_all, made_here, sane_lawful, step_at}
-
-some_same : {A : Type 0} {x y : A} → Some x ≡ Some y → x ≡ y
-some_same e = cc
-
-none_some : {A : Type 0} {x : A} → None ≡ Some x → ⊥
-none_some e = cc
 
 -- At most one Done for an id: behind one, the item is complete or gone.
 

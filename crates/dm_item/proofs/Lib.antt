@@ -1,3 +1,4 @@
+pub mod Basics
 pub mod Numbers
 pub mod Places
 pub mod Looks
@@ -13,3 +14,4 @@ pub mod Readied
 pub mod Applied
 pub mod Restarts
 pub mod Gone
+pub mod Ranges

@@ -1,19 +1,16 @@
 -- Lemmas on lists whose ids rise.
 use Rattle.std.proofs.Common.{◌≡◌, ℕ, ◌+◌, ◌<◌, ◌≤◌, ◌⊎◌, List, [], ◌∷◌, ◌++◌, map, length, cond, true, false, Bool, ◌==◌, Option, Some, None, IsTrue, inl, inr, refl, ap, sym, subst, ◌∙◌, arith}
 use Rattle.std.proofs.lemmas.Bool.{false≢true}
-use Rattle.std.proofs.lemmas.Bool.Decides.{nat_tests}
 use Rattle.dm_types.specs.declared.item.Item.{Item}
 use Rattle.dm_types.specs.declared.entry.Entry.{Entry}
 use Rattle.dm_types.specs.declared.entry.Entry.TheVariants as entries
 use Rattle.dm_types.specs.declared.item.ItemId.{ItemId}
+use Rattle.dm_item.proofs.Basics.{eq_same}
 use Rattle.dm_item.specs.Fields.{is_gone}
 use Rattle.dm_item.specs.Row.{changed, target_of, stopped_item}
 use Rattle.dm_item.specs.Restored.{IsAbove, IsRestorable}
 use Rattle.dm_item.specs.Listing.{TargetTakes, changed_at, items_after, put_in, without}
 use Rattle.dm_item.specs.Kept.{IsKept, IsNumbered}
-
-eq-is : (n m : ℕ) → (n == m) ≡ true → n ≡ m
-eq-is n m test = grind (arith, nat_tests)
 
 pub numbered-count : (low : ℕ) (items : List Item) (next : ℕ) → IsNumbered low items next → low + length items ≤ next
 numbered-count low [] next numbered = omega (arith, numbered)
@@ -94,7 +91,7 @@ pub kept-named : (limit next : ℕ) (e : Entry) (items new : List Item) → IsNu
 kept-named limit next e items new numbered takes =
     record { numbered = subst (λ (x : List Item). IsNumbered 1 x next) (sym takes.value) (numbered-items_after e (target_of e) 1 items next numbered); fresh = λ no_way. absurd (false≢true no_way) }
 
-numbered-reopened : (first : Bool) (current next : ℕ) (items : List Item) → IsNumbered 1 items current → (IsTrue first → items ≡ []) → (next ≡ current) ⊎ (IsTrue first × (1 ≤ next)) → IsNumbered 1 (map stopped_item items) (cond first next current)
+pub numbered-reopened : (first : Bool) (current next : ℕ) (items : List Item) → IsNumbered 1 items current → (IsTrue first → items ≡ []) → (next ≡ current) ⊎ (IsTrue first × (1 ≤ next)) → IsNumbered 1 (map stopped_item items) (cond first next current)
 numbered-reopened false current next items numbered fresh may = numbered-stopped 1 items current numbered
 numbered-reopened true current next items numbered fresh may =
     let least = numbered-count 1 items current numbered in
@@ -108,7 +105,7 @@ kept-reopened limit current next after first early items new numbered fresh may 
 -- an item put in the place of the one with its id
 numbered-put_test : (new item : Item) (low : ℕ) (rest : List Item) (next : ℕ) (test : Bool) → (item.id.0 == new.id.0) ≡ test → IsNumbered low (item ∷ rest) next → IsNumbered (item.id.0 + 1) (put_in new.id.0 new rest) next
     → IsNumbered low (cond test (new ∷ rest) (item ∷ put_in new.id.0 new rest)) next
-numbered-put_test new item low rest next true is numbered older = subst (λ (n : ℕ). (low ≤ n) × IsNumbered (n + 1) rest next) (eq-is item.id.0 new.id.0 is) numbered
+numbered-put_test new item low rest next true is numbered older = subst (λ (n : ℕ). (low ≤ n) × IsNumbered (n + 1) rest next) (eq_same item.id.0 new.id.0 is) numbered
 numbered-put_test new item low rest next false is numbered older = (numbered.0, older)
 
 pub numbered-put : (new : Item) (low : ℕ) (items : List Item) (next : ℕ) → IsNumbered low items next → IsNumbered low (put_in new.id.0 new items) next

@@ -6,17 +6,12 @@ use Rattle.dm_types.specs.declared.item.Item.{Item}
 use Rattle.dm_types.specs.declared.item.ItemId.{ItemId}
 use Rattle.dm_types.specs.declared.entry.Entry.{Entry}
 use Rattle.dm_types.specs.declared.entry.Entry.TheVariants as entries
+use Rattle.dm_item.proofs.Basics.{none_some, some_same}
 use Rattle.dm_item.specs.Row.{changed}
 use Rattle.dm_item.specs.Listing.{Listing, Meets, Row, Takes, changed_at, is_light, item_in, put_in}
 use Rattle.dm_item.specs.Ready.{IsReady, adds_item}
 use Rattle.dm_item.proofs.Numbers.{changed-id}
 use Rattle.dm_item.proofs.Undoing.{found-id}
-
-some_same : {A : Type 0} {x y : A} → Some x ≡ Some y → x ≡ y
-some_same e = cc
-
-none_some : {A : Type 0} {x : A} → None ≡ Some x → ⊥
-none_some e = cc
 
 -- changing an item in its place is putting the changed one there
 changed_put_at : (e : Entry) (id : ℕ) (first : Item) (rest : List Item) (item : Item) (test : Bool) → (item_in id rest ≡ Some item → changed_at e id rest ≡ put_in id (changed e item) rest)

@@ -1,14 +1,14 @@
 -- A lawful list is one that a compaction may write: its short history is lawful and leaves the same items.
-use Rattle.std.proofs.Common.{◌≡◌, ◌≢◌, ℕ, ◌+◌, ◌<◌, ◌≤◌, ◌⊎◌, List, [], ◌∷◌, ◌++◌, map, reverse, cond, true, false, Bool, ◌==◌, Option, Some, None, IsTrue, inl, inr, refl, ap, sym, subst, ◌∙◌, arith, append_assoc}
+use Rattle.std.proofs.Common.{◌≡◌, ◌≢◌, ℕ, ◌+◌, ◌<◌, ◌≤◌, ◌⊎◌, List, [], ◌∷◌, ◌++◌, map, reverse, cond, true, false, Bool, ◌==◌, Option, Some, None, IsTrue, inr, refl, ap, sym, subst, ◌∙◌, arith, append_assoc}
 use Rattle.std.specs.Prelude.{IfSome}
 use Rattle.std.proofs.lemmas.Bool.{false≢true}
-use Rattle.std.proofs.lemmas.Bool.Decides.{nat_tests}
 use Rattle.std.proofs.lemmas.List.{append-nil}
 use Rattle.dm_types.specs.declared.item.Item.{Item}
 use Rattle.dm_types.specs.declared.item.ItemId.{ItemId}
 use Rattle.dm_types.specs.declared.entry.Entry.{Entry}
 use Rattle.dm_types.specs.declared.entry.Entry.TheVariants as entries
 use Rattle.dm_types.specs.Name.{fold_case}
+use Rattle.dm_item.proofs.Basics.{eq_other, eq_same, none_some, some_same}
 use Rattle.dm_item.specs.Fields.{added_item, is_gone}
 use Rattle.dm_item.specs.Row.{Further, HasName, HasNameIn, IsFreeName, allows, changed, is_cancelled, stopped_item}
 use Rattle.dm_item.specs.Words.{IsFreeWord}
@@ -16,9 +16,10 @@ use Rattle.dm_item.specs.Restored.{HasOwnName, IsAbove, IsApartFrom, IsRestorabl
 use Rattle.dm_item.specs.Listing.{Listing, Meets, Row, applied, changed_at, empty_list, item_in, items_after, without}
 use Rattle.dm_item.specs.Kept.{IsNumbered}
 use Rattle.dm_item.specs.Lawful.{History, IsLawfulBack, IsOf, IsShort, left_by, short_history}
-use Rattle.dm_item.proofs.Numbers.{numbered-above, numbered-changed_at, numbered-count, numbered-push, numbered-stopped, numbered-without}
+use Rattle.dm_item.proofs.Numbers.{numbered-above, numbered-changed_at, numbered-count, numbered-push, numbered-reopened, numbered-without}
 use Rattle.dm_item.proofs.Histories.{empty_is, keeps_step}
 use Rattle.dm_item.proofs.Steps.{left_by_step}
+use Rattle.dm_item.proofs.Undoing.{found-id}
 use Rattle.dm_item.proofs.Sounds.{changes, sound-added, sound-changed, sound-stopped, stays_open, stopped_cancelled}
 
 -- the word is empty, or another than this one
@@ -107,15 +108,6 @@ kept_left id x new (y ∷ rest) low next far numbered kept behind =
     let own = numbered.0 in
     ((kept.0 (λ (e : y.id.0 ≡ id). omega arith)).left behind.0, kept_left id x new rest (y.id.0 + 1) next (omega arith) numbered.1 kept.1 behind.1)
 
-eq_is : (n m : ℕ) → (n == m) ≡ true → n ≡ m
-eq_is n m test = grind (arith, nat_tests)
-
-eq_not : (n m : ℕ) → (n == m) ≡ false → n ≢ m
-eq_not n m test = grind (arith, nat_tests)
-
-some_same : {A : Type 0} {x y : A} → Some x ≡ Some y → x ≡ y
-some_same e = cc
-
 behind_at_test : (e : Entry) (id : ℕ) (x y z : Item) (rest : List Item) (test : Bool) → (z.id.0 == id) ≡ test → cond test (Some z) (item_in id rest) ≡ Some x → (Pair y x → Pair y (changed e x)) → Behind y (z ∷ rest) → (item_in id rest ≡ Some x → Behind y (changed_at e id rest)) → Behind y (cond test (changed e z ∷ rest) (z ∷ changed_at e id rest))
 behind_at_test e id x y z rest true is found right behind older =
     (subst (λ (i : Item). Pair y (changed e i)) (sym (some_same found)) (right (subst (λ (i : Item). Pair y i) (some_same found) behind.0)), behind.1)
@@ -128,11 +120,11 @@ behind_at e id x y (z ∷ rest) found right behind = behind_at_test e id x y z r
 apart_at_test : (e : Entry) (id : ℕ) (x y : Item) (rest : List Item) (low next : ℕ) (test : Bool) → (y.id.0 == id) ≡ test → cond test (Some y) (item_in id rest) ≡ Some x → IsNumbered low (y ∷ rest) next → KeptAll id x (changed e x) (y ∷ rest) → Apart (y ∷ rest) → (item_in id rest ≡ Some x → Apart (changed_at e id rest)) → Apart (cond test (changed e y ∷ rest) (y ∷ changed_at e id rest))
 apart_at_test e id x y rest low next true is found numbered kept far older =
     let same : y ≡ x = some_same found in
-    let own : y.id.0 ≡ id = eq_is y.id.0 id is in
+    let own : y.id.0 ≡ id = eq_same y.id.0 id is in
     let behind_x : Behind x rest = subst (λ (i : Item). Behind i rest) same far.0 in
     (subst (λ (i : Item). Behind (changed e i) rest) (sym same) (kept_left id x (changed e x) rest (y.id.0 + 1) next (omega arith) numbered.1 kept.1 behind_x), far.1)
 apart_at_test e id x y rest low next false is found numbered kept far older =
-    (behind_at e id x y rest found (kept.0 (eq_not y.id.0 id is)).right far.0, older found)
+    (behind_at e id x y rest found (kept.0 (eq_other y.id.0 id is)).right far.0, older found)
 
 apart_at : (e : Entry) (id : ℕ) (x : Item) (items : List Item) (low next : ℕ) → item_in id items ≡ Some x → IsNumbered low items next → KeptAll id x (changed e x) items → Apart items → Apart (changed_at e id items)
 apart_at e id x [] low next found numbered kept far = tt
@@ -151,20 +143,9 @@ sounds_in_test : (id : ℕ) (x y : Item) (rest : List Item) (test : Bool) → co
 sounds_in_test id x y rest true found sound older = subst IsSound (some_same found) sound
 sounds_in_test id x y rest false found sound older = older found
 
-none_some : {A : Type 0} {x : A} → None ≡ Some x → ⊥
-none_some e = cc
-
 sounds_in : (id : ℕ) (x : Item) (items : List Item) → item_in id items ≡ Some x → Sounds items → IsSound x
 sounds_in id x [] found all = absurd (none_some found)
 sounds_in id x (y ∷ rest) found all = sounds_in_test id x y rest (y.id.0 == id) found all.0 (λ later. sounds_in id x rest later all.1)
-
-id_in_test : (id : ℕ) (x y : Item) (rest : List Item) (test : Bool) → (y.id.0 == id) ≡ test → cond test (Some y) (item_in id rest) ≡ Some x → (item_in id rest ≡ Some x → x.id.0 ≡ id) → x.id.0 ≡ id
-id_in_test id x y rest true is found older = ap (λ (i : Item). i.id.0) (sym (some_same found)) ∙ eq_is y.id.0 id is
-id_in_test id x y rest false is found older = older found
-
-id_in : (id : ℕ) (x : Item) (items : List Item) → item_in id items ≡ Some x → x.id.0 ≡ id
-id_in id x [] found = absurd (none_some found)
-id_in id x (y ∷ rest) found = id_in_test id x y rest (y.id.0 == id) refl found (λ later. id_in id x rest later)
 
 -- the same word and name, of an item that wasn't cancelled
 kept_same : (x new y : Item) → new.word ≡ x.word → new.name ≡ x.name → is_cancelled x.phase ≡ false → Kept x new y
@@ -287,7 +268,7 @@ good-gone e id v x false is does good found row =
     record {
       numbered = numbered-changed_at e id.0 1 v.items v.next good.numbered;
       sounds = sounds_at e id.0 x v.items found (sound-changed e v.items x (sounds_in id.0 x v.items found good.sounds) row.0 is does row.1) good.sounds;
-      apart = apart_at e id.0 x v.items 1 v.next found good.numbered (kept_row e id.0 v.items x (id_in id.0 x v.items found) row.0 is does row.1) good.apart;
+      apart = apart_at e id.0 x v.items 1 v.next found good.numbered (kept_row e id.0 v.items x (found-id id.0 v.items x found) row.0 is does row.1) good.apart;
     }
 
 good-named : (e : Entry) (id : ItemId) (v : Listing) (found : Option Item) → changes e ≡ true → Good v → item_in id.0 v.items ≡ found → Row e v.items found → Good (record v { is_first = false; is_early = false; items = items_after e (Some id) v.items })
@@ -311,17 +292,10 @@ good-restored item v good is =
       apart = apart-push v.items item good.apart (before_new v.items item is.word is.name);
     }
 
-reopened_numbered : (first : Bool) (current next : ℕ) (items : List Item) → IsNumbered 1 items current → (IsTrue first → items ≡ []) → (next ≡ current) ⊎ (IsTrue first × (1 ≤ next)) → IsNumbered 1 (map stopped_item items) (cond first next current)
-reopened_numbered false current next items numbered fresh may = numbered-stopped 1 items current numbered
-reopened_numbered true current next items numbered fresh may =
-    let least = numbered-count 1 items current numbered in
-    let low : 1 ≤ next = elim may [ inl same ↦ omega arith | inr both ↦ both.1 ] in
-    subst (λ (x : List Item). IsNumbered 1 (map stopped_item x) next) (sym (fresh refl)) low
-
 good-reopened : (next at : ℕ) (v : Listing) (first : Bool) → v.is_first ≡ first → (IsTrue v.is_first → v.items ≡ []) → Good v → (next ≡ v.next) ⊎ (IsTrue v.is_first × (1 ≤ next)) → Good (applied (entries.Reopened next at) v)
 good-reopened next at v first is fresh good may =
     record {
-      numbered = reopened_numbered v.is_first v.next next v.items good.numbered fresh may;
+      numbered = numbered-reopened v.is_first v.next next v.items good.numbered fresh may;
       sounds = sounds-stopped v.items good.sounds;
       apart = apart-stopped v.items good.apart;
     }
@@ -474,7 +448,7 @@ behind_in x y k (z ∷ rest) behind found = behind_in_test x z y k rest (z.id.0 
 
 apart_in_test : (z x y : Item) (k j : ℕ) (rest : List Item) (first second : Bool) → (z.id.0 == k) ≡ first → (z.id.0 == j) ≡ second → k ≢ j → Behind z rest
     → cond first (Some z) (item_in k rest) ≡ Some x → cond second (Some z) (item_in j rest) ≡ Some y → (item_in k rest ≡ Some x → item_in j rest ≡ Some y → IsApartFrom x y) → IsApartFrom x y
-apart_in_test z x y k j rest true true is_k is_j other behind found_x found_y older = absurd (other (sym (eq_is z.id.0 k is_k) ∙ eq_is z.id.0 j is_j))
+apart_in_test z x y k j rest true true is_k is_j other behind found_x found_y older = absurd (other (sym (eq_same z.id.0 k is_k) ∙ eq_same z.id.0 j is_j))
 apart_in_test z x y k j rest true false is_k is_j other behind found_x found_y older =
     subst (λ (i : Item). IsApartFrom i y) (some_same found_x) (swap_apart z y (behind_in z y j rest behind found_y).name)
 apart_in_test z x y k j rest false true is_k is_j other behind found_x found_y older =

@@ -21,6 +21,7 @@ use Rattle.dm_types.specs.declared.entry.Entry.TheVariants as entries
 use Rattle.dm_policy.specs.declared.mode.ModeFacts.{ModeFacts}
 use Rattle.dm_policy.specs.Mode.{asked_mode, asks_user, by_user, can_continue, from_start, is_invalid, is_last_attempt, mode_by, placed_mode}
 use Rattle.dm_slice.specs.Words.{IsNormal, IsWithin, cover_end}
+use Rattle.dm_item.proofs.Basics.{none_some, some_same}
 use Rattle.dm_item.specs.Fields.{added_item, is_gone, is_running, no_bytes, stopped}
 use Rattle.dm_item.specs.Row.{Further, IsBegun, IsDescribed, IsFinishing, IsProgress, IsRestarted, IsTotalOf, allows, begins_in, changed, described_item, facts_of, is_cancelled, is_complete, is_finishing, is_interrupted, is_paused, is_waiting, mode_in, mode_of_item, restarted_item, stopped_item, stopped_reason}
 use Rattle.dm_item.specs.Restored.{IsCovered, IsDigestOf, IsReasonOf, IsSound}
@@ -146,12 +147,6 @@ never_cancelled (entries.Archived id) may stays does = false≢true (sym stays)
 never_cancelled (entries.Reopened next at) may stays does = false≢true does
 never_cancelled (entries.Restored other) may stays does = false≢true does
 never_cancelled (entries.Asked id) may stays does = false≢true may
-
-some_same : {A : Type 0} {x y : A} → Some x ≡ Some y → x ≡ y
-some_same e = cc
-
-none_some : {A : Type 0} {x : A} → None ≡ Some x → ⊥
-none_some e = cc
 
 -- the reason of a phase that may be paused or asked for isn't the user's cancel
 kept_reason : (phase : Phase) (reason : Option Reason) → is_cancelled phase ≡ false → IsReasonOf phase reason → reason ≢ Some reasons.UserCanceled

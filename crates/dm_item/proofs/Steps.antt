@@ -2,18 +2,18 @@
 use Rattle.std.proofs.Common.{◌≡◌, ◌≢◌, ℕ, suc, ◌+◌, ◌<◌, ◌≤◌, List, [], ◌∷◌, ◌++◌, map, cond, true, false, Bool, ◌&&◌, ◌==◌, Option, Some, None, inl, inr, refl, ap, sym, subst, ◌∙◌, arith, add-one}
 use Rattle.std.specs.Prelude.{is_some, option_to_list, option_and_then}
 use Rattle.std.proofs.lemmas.Bool.{cases_eq, false≢true}
-use Rattle.std.proofs.lemmas.Bool.Decides.{nat_tests}
 use Rattle.dm_types.specs.declared.item.Item.{Item}
 use Rattle.dm_types.specs.declared.item.ItemId.{ItemId}
 use Rattle.dm_types.specs.declared.entry.Entry.{Entry}
 use Rattle.dm_types.specs.declared.entry.Entry.TheVariants as entries
+use Rattle.dm_item.proofs.Basics.{eq_false, eq_same, eq_true, first_none}
 use Rattle.dm_item.specs.History.{first_some, there, get, map_some, newest, oldest, since, stands}
 use Rattle.dm_item.specs.Fields.{added_id, added_item, base_of, finishing_total, id_of, is_early, is_early_entry, is_for, is_gone, is_restarted, item_at, item_of, items_below, looked_back, next_of, own, reopened_next}
 use Rattle.dm_item.specs.Row.{Further, allows, begun_item, changed, target_of, restarted_item, stopped_item}
 use Rattle.dm_item.specs.Listing.{Listing, Meets, Row, applied, item_in, items_after}
 use Rattle.dm_item.specs.Lawful.{IsLawfulBack, left_by}
 use Rattle.dm_item.proofs.Looks.{FinishingHasKey, Fresh, nothing, opened, present, item-added, item-reopened, item-restored, one_gone, one_more, step_began, step_described, no_finishing, all_since}
-use Rattle.dm_item.proofs.Below.{Found, IsIndexed, above_below, below-edit, below-none, below-same, below-stopped, edit-after, effect, eq_false, eq_true, in_below}
+use Rattle.dm_item.proofs.Below.{Found, IsIndexed, above_below, below-edit, below-none, below-same, below-stopped, edit-after, effect, in_below}
 
 -- the entries of one id
 own_other : (e : Entry) (h : List Entry) (id k : ℕ) → id_of e ≡ Some id → id ≢ k → own k (e ∷ h) ≡ own k h
@@ -59,9 +59,6 @@ base_named (entries.Archived id) base is = absurd (cc)
 base_named (entries.Reopened next at) base is = absurd (cc)
 base_named (entries.Asked id) base is = absurd (cc)
 
-eq_is : (n m : ℕ) → (n == m) ≡ true → n ≡ m
-eq_is n m test = grind (arith, nat_tests)
-
 own_base_at : (k : ℕ) (e : Entry) (h : List Entry) (base : Item) (here : Bool) (told : Option Item) → is_for k (id_of e) ≡ here → base_of e ≡ told → newest base_of (cond here (e ∷ own k h) (own k h)) ≡ Some base → (newest base_of (own k h) ≡ Some base → base.id.0 ≡ k) → base.id.0 ≡ k
 own_base_at k e h base false told here told_is is older = older is
 own_base_at k e h base true None here told_is is older = older (ap (λ (x : Option Item). first_some x (newest base_of (own k h))) (sym told_is) ∙ is)
@@ -69,7 +66,7 @@ own_base_at k e h base true (Some b) here told_is is older =
     let same : b ≡ base = some_same b base (ap (λ (x : Option Item). first_some x (newest base_of (own k h))) (sym told_is) ∙ is) in
     let named = base_named e b told_is in
     let is_own : (b.id.0 == k) ≡ true = ap (is_for k) (sym named) ∙ here in
-    ap (λ (i : Item). i.id.0) (sym same) ∙ eq_is b.id.0 k is_own
+    ap (λ (i : Item). i.id.0) (sym same) ∙ eq_same b.id.0 k is_own
 
 own_base : (k : ℕ) (h : List Entry) (base : Item) → newest base_of (own k h) ≡ Some base → base.id.0 ≡ k
 own_base k [] base is = absurd (cc)
@@ -121,10 +118,6 @@ record Plain (e : Entry) (id : ItemId) : Type 0 where
   no_added : added_id e ≡ None
   no_next : reopened_next e ≡ None
   late : is_early_entry e ≡ false
-
-first_none : (found : Option ℕ) → first_some found None ≡ found
-first_none None = refl
-first_none (Some n) = refl
 
 next_plain : (e : Entry) (h : List Entry) → added_id e ≡ None → reopened_next e ≡ None → next_of (e ∷ h) ≡ next_of h
 next_plain e h no_added no_next =

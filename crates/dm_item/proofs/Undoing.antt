@@ -10,6 +10,7 @@ use Rattle.dm_types.specs.declared.item.Item.{Item}
 use Rattle.dm_types.specs.declared.item.ItemId.{ItemId}
 use Rattle.dm_types.specs.declared.entry.Entry.{Entry}
 use Rattle.dm_types.specs.declared.entry.Entry.TheVariants as entries
+use Rattle.dm_item.proofs.Basics.{eq_same}
 use Rattle.dm_item.specs.Before.{Earlier, HasTaken, adds_or_changes, earlier_of, items_back, taken_back}
 use Rattle.dm_item.specs.Fields.{added_item}
 use Rattle.dm_item.specs.Row.{changed}
@@ -17,12 +18,9 @@ use Rattle.dm_item.specs.Listing.{Listing, Row, Takes, applied, changed_at, item
 use Rattle.dm_item.specs.Kept.{IsKept}
 use Rattle.dm_item.proofs.Numbers.{changed-id}
 
-eq-same : (n m : ℕ) → (n == m) ≡ true → n ≡ m
-eq-same n m test = grind (arith, nat_tests)
-
 -- an item that is found by an id has it
 found-here : (id : ℕ) (first : Item) (rest : List Item) (item : Item) (test : Bool) → (first.id.0 == id) ≡ test → (item_in id rest ≡ Some item → item.id.0 ≡ id) → cond test (Some first) (item_in id rest) ≡ Some item → item.id.0 ≡ id
-found-here id first rest item true here later found = let same : first ≡ item = cc in ap (λ (i : Item). i.id.0) (sym same) ∙ eq-same first.id.0 id here
+found-here id first rest item true here later found = let same : first ≡ item = cc in ap (λ (i : Item). i.id.0) (sym same) ∙ eq_same first.id.0 id here
 found-here id first rest item false here later found = later found
 
 pub found-id : (id : ℕ) (items : List Item) (item : Item) → item_in id items ≡ Some item → item.id.0 ≡ id
