@@ -13,7 +13,7 @@ use Rattle.dm_disk_model.proofs.Reaching.{over_call, joined, weaker, at_end}
 use Rattle.dm_journal.specs.Text.{header, FitsCell, in_four, cell, AllFit, front, IsJournalText}
 use Rattle.dm_journal.specs.AtRest.{journal_name, journal_place, AtRest, ReadsJournal, WithOrWithout, cell_tail}
 use Rattle.dm_journal.proofs.Texts.{cells_push, length-cell}
-use Rattle.dm_journal.proofs.Appending.{KeepsFront, front_left, front_settled, front_torn, written_is_torn, opening, opening_open, gate_left, overwrite_at_seam}
+use Rattle.dm_journal.proofs.Leaving.{KeepsFront, front_left, front_settled, front_torn, written_is_torn, opening, opening_open, gate_left, overwrite_at_seam}
 
 -- the file stands, and its front is durable
 pub record Kept (bodies : List (List ℕ)) (disk : DiskState) : Type 0 where

@@ -15,7 +15,7 @@ use Rattle.dm_disk_model.proofs.Images.{file_as_read}
 use Rattle.dm_disk_model.proofs.Places.{names_reads}
 use Rattle.dm_disk_model.proofs.Reaching.{at_start, over_call, joined, weaker, at_end}
 use Rattle.dm_journal.specs.AtRest.{journal_name, journal_place}
-use Rattle.dm_journal.specs.Finding.{SyncsOnly}
+use Rattle.dm_journal.specs.Reading.{SyncsOnly}
 use Rattle.dm_journal.proofs.Calls.{keeps_then}
 
 -- what a crash leaves of a synced file are its bytes, which it may leave of the file before

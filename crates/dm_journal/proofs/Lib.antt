@@ -1,9 +1,9 @@
-pub mod Appending
+pub mod Leaving
 pub mod Beginning
 pub mod Calls
-pub mod Faults
 pub mod Fewer
 pub mod Fronts
+pub mod Others
 pub mod Resting
 pub mod Settling
 pub mod Starts

@@ -14,7 +14,7 @@ use Rattle.dm_journal.specs.Text.{front, IsJournalText}
 use Rattle.dm_journal.specs.AtRest.{journal_name, journal_place, AtRest, HasJournal, ReadsJournal}
 use Rattle.dm_journal.specs.Finding.{ReadsDamaged}
 use Rattle.dm_journal.proofs.Texts.{journal_unique, never_both}
-use Rattle.dm_journal.proofs.Appending.{front_settled, front_left}
+use Rattle.dm_journal.proofs.Leaving.{front_settled, front_left}
 
 -- an image has the bodies of one journal at most
 pub image_unique : (a b : List (List ℕ)) (image : Image) → HasJournal a image → HasJournal b image → a ≡ b

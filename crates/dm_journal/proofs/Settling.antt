@@ -10,7 +10,7 @@ use Rattle.dm_disk_model.specs.Disk.{DiskState, StandsNot, SyncStep, SyncNamesSt
 use Rattle.dm_disk_model.proofs.PendingNames.{each_synced}
 use Rattle.dm_disk_model.proofs.FirmNames.{has_after_sync, steps}
 use Rattle.dm_journal.specs.AtRest.{journal_name, journal_place}
-use Rattle.dm_journal.specs.Finding.{IsDurable}
+use Rattle.dm_journal.specs.Reading.{IsDurable}
 
 names_stay : (old new : Folder) → SyncsNames old new → names_of new ≡ names_of old
 names_stay old new taken = ap (λ (s : Names). after_changes s new.changes) taken.synced ∙ ap (after_changes (names_of old)) taken.changes

@@ -5,7 +5,9 @@ use Rattle.std.proofs.lemmas.Option.{same_Some, none-some}
 use Rattle.dm_disk_model.specs.Disk.{DiskState, StandsNot, bytes_at}
 use Rattle.dm_journal.specs.Text.{IsJournalText, IsDamagedAt, front}
 use Rattle.dm_journal.specs.AtRest.{journal_place, AtRest, ReadsJournal}
-use Rattle.dm_journal.specs.Finding.{Found, Finds, FindsText, HoldsText, Tells, ReadsDamaged}
+use Rattle.dm_journal.specs.Finding.{Found, Finds, IsAsRead, ReadsDamaged}
+use Rattle.dm_journal.specs.Reading.{FindsText, HoldsText, IsDurable, FileIsRead}
+use Rattle.dm_journal.specs.declared.text.WholeText.{WholeText}
 use Rattle.dm_journal.specs.declared.fault.JournalFault.{JournalFault}
 use Rattle.dm_journal.specs.declared.fault.JournalFault.TheVariants.{Disk, Damaged, NoMemory}
 use Rattle.dm_journal.proofs.Texts.{journal_unique, never_both, damage_unique}
@@ -33,7 +35,7 @@ damaged_unique disk a b one other =
 pair_same : (found : ℕ × List (List ℕ)) (gate : ℕ) (bodies : List (List ℕ)) → found.0 ≡ gate → found.1 ≡ bodies → found ≡ (gate, bodies)
 pair_same found gate bodies first second = ap (λ (g : ℕ). (g, found.1)) first ∙ ap (λ (bs : List (List ℕ)). (gate, bs)) second
 
-pub found_told : (old new : DiskState) (result : Result Found JournalFault) → Finds old new result → Tells old result
+pub found_told : (old new : DiskState) (result : Result Found JournalFault) → Finds old new result → IsAsRead old result
 found_told old new (Ok None) finds = record {
   none = λ nothing. inl refl;
   some = λ gate bodies reads. absurd (none_reads old reads.bytes finds.0 reads.reads);
@@ -65,3 +67,12 @@ text_holds old new gate bodies holds at = (
   record { bytes = holds.bytes; reads = holds.durable.reads; text = holds.text; at = at },
   record { bytes = holds.bytes; file = holds.durable.file; text = holds.text; at = at },
 )
+
+-- what was read of the file is what is found
+pub found_text : (old new : DiskState) (bytes : List ℕ) (found : WholeText) → IsDurable old new bytes → FileIsRead bytes (Ok found) → FindsText old new (Ok (Some found))
+found_text old new bytes found durable read = record { bytes = bytes; durable = durable; text = read }
+
+pub fault_text : (old new : DiskState) (bytes : List ℕ) (fault : JournalFault) → IsDurable old new bytes → FileIsRead bytes (Err fault) → FindsText old new (Err fault)
+fault_text old new bytes (Disk kind) durable read = tt
+fault_text old new bytes (Damaged place) durable read = record { bytes = bytes; reads = durable.reads; damaged = read }
+fault_text old new bytes NoMemory durable read = tt

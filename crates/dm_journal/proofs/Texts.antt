@@ -4,9 +4,6 @@ use Rattle.std.proofs.lemmas.List.{take_at, drop_at, append-nil}
 use Rattle.dm_journal.specs.Text.{FitsCell, in_four, cell, cells, AllFit, front, IsJournalText, IsBroken, IsDamagedAt}
 use Rattle.dm_journal.specs.AtRest.{cell_tail}
 use Rattle.dm_journal.specs.Cell.{IsShut}
-use Rattle.dm_journal.specs.Outcome.{TextIsRead, WholeIsRead}
-use Rattle.dm_journal.specs.declared.fault.TextFault.{TextFault}
-use Rattle.dm_journal.specs.declared.fault.TextFault.TheVariants.{Damaged, NoMemory}
 
 pub cells_push : (bodies : List (List ℕ)) (body : List ℕ) → cells (bodies ++ body ∷ []) ≡ cells bodies ++ cell body
 cells_push [] body = append-nil (cell body)
@@ -34,24 +31,14 @@ of_four a b c d n ha hb hc hd is =
     let fourth : n % 256 ≡ d = omega arith in
     cc
 
--- a loop's step: one cell was read
-pub cells_step : (whole : List ℕ) (bodies new : List (List ℕ)) (rest body after : List ℕ) → whole ≡ cells bodies ++ rest → rest ≡ cell body ++ after → new ≡ bodies ++ body ∷ []
-    → whole ≡ cells new ++ after
-cells_step whole bodies new rest body after so_far here is =
-    so_far
-    ∙ ap (λ (xs : List ℕ). cells bodies ++ xs) here
-    ∙ sym (append_assoc (cells bodies) (cell body) after)
-    ∙ ap (λ (xs : List ℕ). xs ++ after) (sym (cells_push bodies body))
-    ∙ ap (λ (bs : List (List ℕ)). cells bs ++ after) (sym is)
-
 -- no whole cell begins here
-abbrev NoCell : List ℕ → Type 0
-NoCell bytes = (body tail : List ℕ) → FitsCell body → bytes ≢ cell body ++ tail
+abbrev NoWholeCell : List ℕ → Type 0
+NoWholeCell bytes = (body tail : List ℕ) → FitsCell body → bytes ≢ cell body ++ tail
 
-shut_no_cell : (bytes : List ℕ) → IsShut bytes → NoCell bytes
+shut_no_cell : (bytes : List ℕ) → IsShut bytes → NoWholeCell bytes
 shut_no_cell bytes shut body tail fit is = shut.shut (ap (λ (xs : List ℕ). get_or xs 0 0) (sym shut.is ∙ is))
 
-broken_no_cell : (bytes : List ℕ) → IsBroken bytes → NoCell bytes
+broken_no_cell : (bytes : List ℕ) → IsBroken bytes → NoWholeCell bytes
 broken_no_cell [] broken body tail fit is = let long = ap length is in absurd (omega (arith, long))
 broken_no_cell (gate ∷ after) broken body tail fit is = broken.1 body tail fit is
 
@@ -69,7 +56,7 @@ cell_same a b x y fit_a fit_b is =
       sym (drop_at a x (length a) refl) ∙ ap (drop (length a)) behind ∙ drop_at b y (length a) (sym long),
     )
 
-cells_same : (a b : List (List ℕ)) (x y : List ℕ) → AllFit a → AllFit b → NoCell x → NoCell y → cells a ++ x ≡ cells b ++ y → (a ≡ b) × (x ≡ y)
+cells_same : (a b : List (List ℕ)) (x y : List ℕ) → AllFit a → AllFit b → NoWholeCell x → NoWholeCell y → cells a ++ x ≡ cells b ++ y → (a ≡ b) × (x ≡ y)
 cells_same [] [] x y fit_a fit_b end_x end_y is = (refl, is)
 cells_same [] (b ∷ bs) x y fit_a fit_b end_x end_y is = absurd (end_x b (cells bs ++ y) fit_b.0 (is ∙ append_assoc (cell b) (cells bs) y))
 cells_same (a ∷ as') [] x y fit_a fit_b end_x end_y is = absurd (end_y a (cells as' ++ x) fit_a.0 (sym is ∙ append_assoc (cell a) (cells as') x))
@@ -104,22 +91,3 @@ damage_unique bytes a b (inr first) (inl second) = absurd (second.0 (cells first
 damage_unique bytes a b (inr first) (inr second) =
     let same = (cells_same first.bodies second.bodies first.rest second.rest first.sizes second.sizes (broken_no_cell _ first.broken) (broken_no_cell _ second.broken) (ap (drop 8) (sym first.is ∙ second.is))).0 in
     first.at ∙ ap (λ (bodies : List (List ℕ)). length (front bodies)) same ∙ sym second.at
-
--- so what is read of a journal is what it holds
-pub read_bodies : (bytes : List ℕ) (result : Result (List (List ℕ)) TextFault) → TextIsRead bytes result → (bodies : List (List ℕ)) → IsJournalText bodies bytes
-    → (result ≡ Ok bodies) ⊎ (result ≡ Err NoMemory)
-read_bodies bytes (Ok found) read bodies text = inl (ap Ok (journal_unique found bodies bytes read text))
-read_bodies bytes (Err (Damaged place)) read bodies text = absurd (never_both bodies bytes place text read)
-read_bodies bytes (Err NoMemory) read bodies text = inr refl
-
--- and what is read of other bytes is where they are damaged
-pub read_damage : (bytes : List ℕ) (result : Result (List (List ℕ)) TextFault) → TextIsRead bytes result → (place : ℕ) → IsDamagedAt bytes place
-    → (result ≡ Err (Damaged place)) ⊎ (result ≡ Err NoMemory)
-read_damage bytes (Ok found) read place damaged = absurd (never_both found bytes place read damaged)
-read_damage bytes (Err (Damaged found)) read place damaged = inl (ap (λ (n : ℕ). Err (Damaged n)) (damage_unique bytes found place read damaged))
-read_damage bytes (Err NoMemory) read place damaged = inr refl
-
--- a text that isn't read is not read with its gate either
-pub same_damage : (bytes : List ℕ) (fault : TextFault) → WholeIsRead bytes (Err fault) → TextIsRead bytes (Err fault)
-same_damage bytes (Damaged place) read = read
-same_damage bytes NoMemory read = tt

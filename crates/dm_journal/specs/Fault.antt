@@ -1,8 +1,6 @@
 -- What the faults of a journal's calls say.
 use Rattle.std.specs.Prelude.{Option, Some, None}
 use Rattle.dm_types.specs.declared.kinds.DiskKind.{DiskKind}
-use Rattle.dm_journal.specs.declared.fault.TextFault.{TextFault}
-use Rattle.dm_journal.specs.declared.fault.TextFault.TheVariants as texts
 use Rattle.dm_journal.specs.declared.fault.JournalFault.{JournalFault}
 use Rattle.dm_journal.specs.declared.fault.JournalFault.TheVariants.{Disk, Damaged, NoMemory}
 
@@ -17,8 +15,3 @@ abbrev pub IsNoDamage : JournalFault → Type 0
 IsNoDamage (Disk kind) = Unit {0}
 IsNoDamage (Damaged place) = ⊥
 IsNoDamage NoMemory = Unit {0}
-
--- the fault that a text which is no journal gives
-abbrev pub of_text : TextFault → JournalFault
-of_text (texts.Damaged place) = Damaged place
-of_text texts.NoMemory = NoMemory

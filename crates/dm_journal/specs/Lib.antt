@@ -2,7 +2,8 @@ pub mod AtRest
 pub mod Cell
 pub mod Fault
 pub mod Finding
-pub mod Kept
-pub mod Outcome
+pub mod InMemory
+pub mod Reading
 pub mod Starting
+pub mod Taking
 pub mod Text

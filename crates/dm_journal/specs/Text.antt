@@ -1,13 +1,21 @@
 -- The journal's text, form 1: a header, cells with an open gate, a closed gate, and then anything.
-use Rattle.std.specs.Prelude.{◌≡◌, ◌≢◌, ◌⊎◌, ℕ, ◌/◌, ◌%◌, ◌^◌, ◌≤◌, List, [], ◌∷◌, ◌++◌, length}
+use Rattle.std.specs.Prelude.{◌≡◌, ◌≢◌, ◌⊎◌, ℕ, ◌+◌, ◌/◌, ◌%◌, ◌^◌, ◌≤◌, List, [], ◌∷◌, ◌++◌, length}
 
 -- `DMJRNL1` and a line feed
 abbrev pub header : List ℕ
 header = 68 ∷ 77 ∷ 74 ∷ 82 ∷ 78 ∷ 76 ∷ 49 ∷ 10 ∷ []
 
+-- the most bytes of a body
+abbrev pub largest_body : ℕ
+largest_body = 16384
+
+-- the most bytes that are written behind a gate at once: a length, a body, and the next gate
+abbrev pub largest_tail : ℕ
+largest_tail = 5 + largest_body
+
 -- a body has 1 to 16,384 bytes
 abbrev pub FitsCell : List ℕ → Type 0
-FitsCell body = (1 ≤ length body) × (length body ≤ 16384)
+FitsCell body = (1 ≤ length body) × (length body ≤ largest_body)
 
 -- a number in 4 bytes, the highest first
 abbrev pub in_four : ℕ → List ℕ

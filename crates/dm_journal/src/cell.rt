@@ -2,7 +2,7 @@ ghost use Rattle.std.specs.Prelude.{◌≡◌, ◌+◌, ◌*◌};
 ghost use Rattle.dm_journal.specs.Cell.{IsAtGate};
 
 /// The most bytes of a body.
-pub(crate) const MOST: usize = 16384;
+pub(crate) const LARGEST_BODY: usize = 16_384;
 
 /// What stands where a gate should stand.
 pub(crate) enum AtGate<'a> {
@@ -10,24 +10,28 @@ pub(crate) enum AtGate<'a> {
     Shut,
     /// An open gate with its whole cell: the body, and what stands behind it.
     Cell(&'a [u8], &'a [u8]),
-    /// No gate, or an open one whose cell isn't whole.
+    /// An open gate of which no bytes behind make a whole cell.
     Broken,
+    /// No gate, or an open one whose cell isn't whole: more bytes may make it so.
+    More,
 }
 
 pub(crate) fn at_gate(bytes: &[u8]) -> AtGate<'_>
     ensures { IsAtGate bytes.now result }
 {
     match bytes {
-        [] => AtGate::Broken,
         [1, a, b, c, d, after @ ..] => {
             let size = number_of(*a, *b, *c, *d);
-            if size == 0 || size > MOST || size > after.len() {
+            if size == 0 || size > LARGEST_BODY {
                 AtGate::Broken
+            } else if size > after.len() {
+                AtGate::More
             } else {
                 AtGate::Cell(&after[..size], &after[size..])
             }
         }
-        [1, ..] => AtGate::Broken,
+        [] => AtGate::More,
+        [1, ..] => AtGate::More,
         [_, ..] => AtGate::Shut,
     }
 }

@@ -3,19 +3,21 @@ ghost use Rattle.dm_types.specs.Faults.{HasCause};
 ghost use Rattle.dm_disk_model.specs.declared.place.Place.{Place as Spot};
 ghost use Rattle.dm_disk_model.specs.Faults.{disk_kind};
 ghost use Rattle.dm_disk_model.specs.Names.{NeverStands};
-ghost use Rattle.dm_disk_model.specs.Disk.{now, Stands, StandsNot, MayLeave, bytes_at};
+ghost use Rattle.dm_disk_model.specs.Disk.{now, Stands, StandsNot, ChangesOnly, MayLeave, bytes_at};
 ghost use Rattle.dm_disk_model.specs.Moments.{LeavesOnly, KeepsFiles};
 ghost use Rattle.dm_journal.specs.declared.fault.JournalFault.TheVariants as faults;
 ghost use Rattle.dm_journal.specs.Fault.{journal_kind, IsNoDamage};
-ghost use Rattle.dm_journal.specs.Finding.{Finds, Tells, IsBehind};
-ghost use Rattle.dm_journal.specs.Kept.{IsRoom, state_place};
-ghost use Rattle.dm_journal.specs.Starting.{OldOrBlank, NoneOrBlank};
-ghost use Rattle.dm_journal.specs.Text.{FitsCell};
+ghost use Rattle.dm_journal.specs.Finding.{Finds, IsAsRead, IsBehind};
+ghost use Rattle.dm_journal.specs.InMemory.{IsRoom, state_place};
+ghost use Rattle.dm_journal.specs.Starting.{spare_place, OldOr, NoneOrBlank, ChangesTheTwo};
+ghost use Rattle.dm_journal.specs.Text.{FitsCell, header, largest_tail};
 ghost use Rattle.dm_journal.specs.AtRest.{journal_place, AtRest, ReadsJournal, WithOrWithout, cell_tail};
 
+use crate::appending::write_cell;
+use crate::cell::LARGEST_BODY;
 use crate::finding::find_text;
-use crate::opening::write_cell;
 use crate::starting::start_blank;
+use crate::text::HEADER;
 use crate::{Bodies, JournalFault};
 use dm_disk_model::{Area, Disk, DiskFault, Place};
 use dm_types::{NoMemory, Text};
@@ -23,7 +25,7 @@ use std::alloc::Global;
 use std::marker::Model;
 
 /// The most bytes that are written at once: a cell's length and body, and a gate.
-const ROOM: usize = 16_389;
+const LARGEST_TAIL: usize = 5 + LARGEST_BODY;
 
 /// The journal of a disk. In contracts it is the place of its closed gate in the file.
 #[derive(Drop)]
@@ -39,7 +41,7 @@ impl Model for Journal {
 
     ghost Value = { ℕ };
 
-    ghost use Rattle.dm_journal.specs.Kept.{gate_of, IsJournal};
+    ghost use Rattle.dm_journal.specs.InMemory.{gate_of, IsJournal};
 
     ghost view = { gate_of };
 
@@ -53,10 +55,14 @@ impl Journal {
         requires stands_not { D.tells → StandsNot (now (D.history disk.old)) journal_place }
 
         // A crash at any moment of the call leaves `journal` as one at its start might have, or with no bodies.
-        ensures any_moment { D.tells → LeavesOnly (D.history disk.old) (D.history disk.new) (OldOrBlank (now (D.history disk.old))) }
+        ensures any_moment { D.tells → LeavesOnly (D.history disk.old) (D.history disk.new) (OldOr [] (now (D.history disk.old))) }
         ensures fresh { D.tells → NeverStands journal_place (now (D.history disk.old)) → LeavesOnly (D.history disk.old) (D.history disk.new) NoneOrBlank }
         ensures ok { D.tells → IfOk result (λ journal. AtRest (now (D.history disk.new)) journal []) }
-        ensures at { IfOk result (λ journal. journal ≡ 8) }
+        ensures at { IfOk result (λ journal. journal ≡ length header) }
+
+        // Nothing stands as `journal.new` then, and all other places of the folder read as before, also after a fault.
+        ensures gone { D.tells → IfOk result (λ journal. NeverStands spare_place (now (D.history disk.new))) }
+        ensures others { D.tells → ChangesTheTwo (now (D.history disk.old)) (now (D.history disk.new)) }
         ensures beside { D.tells → KeepsFiles (D.history disk.old) (D.history disk.new) }
         ensures starved { result ≡ Err faults.NoMemory → disk.new ≡ disk.old }
         ensures undamaged { IfErr result IsNoDamage }
@@ -70,7 +76,7 @@ impl Journal {
         match start_blank(disk, &spare, &place) {
             Ok(()) => Ok(Journal {
                 place,
-                gate: 8,
+                gate: HEADER.len() as u64,
                 buffer,
             }),
             Err(fault) => Err(JournalFault::Disk(fault.0)),
@@ -84,7 +90,7 @@ impl Journal {
         disk: &mut D,
     ) -> Result<Option<(Journal, Bodies)>, JournalFault>
         ensures found { D.tells → Finds (now (D.history disk.old)) (now (D.history disk.new)) result }
-        ensures exact { D.tells → Tells (now (D.history disk.old)) result }
+        ensures exact { D.tells → IsAsRead (now (D.history disk.old)) result }
         ensures at { IfOk result IsBehind }
 
         // A crash at any moment of the call leaves what one at its start might have.
@@ -132,6 +138,7 @@ impl Journal {
             → OnOk result (AtRest (now (D.history disk.new)) self.new (bodies ++ body.now ∷ [])) }
         ensures read { D.tells → (bodies : List (List ℕ)) → ReadsJournal (now (D.history disk.old)) self.old bodies
             → OnOk result (ReadsJournal (now (D.history disk.new)) self.new (bodies ++ body.now ∷ [])) }
+        ensures others { D.tells → ChangesOnly journal_place (now (D.history disk.old)) (now (D.history disk.new)) }
         ensures beside { D.tells → KeepsFiles (D.history disk.old) (D.history disk.new) }
         ensures ok { OnOk result (self.new ≡ self.old + (5 + length body.now)) }
         ensures err { OnErr result (self.new ≡ self.old) }
@@ -151,7 +158,7 @@ fn make_room(alloc: Global) -> Result<(Place, Place, Vec<u8>), NoMemory>
 {
     let place = place_of(alloc, b"journal")?;
     let spare = place_of(alloc, b"journal.new")?;
-    let buffer = Vec::with_capacity(alloc, ROOM)?;
+    let buffer = Vec::with_capacity(alloc, LARGEST_TAIL)?;
     Ok((place, spare, buffer))
 }
 
@@ -169,9 +176,9 @@ fn place_of(alloc: Global, name: &[u8]) -> Result<Place, NoMemory>
 /// Puts what is written behind a closed gate into the buffer.
 fn fill_tail(buffer: &mut Vec<u8>, body: &[u8])
     requires size { FitsCell body.now }
-    requires room { 16389 ≤ vec_capacity buffer.old }
+    requires room { largest_tail ≤ vec_capacity buffer.old }
     ensures tail { buffer.new.items ≡ cell_tail body.now }
-    ensures room { 16389 ≤ vec_capacity buffer.new }
+    ensures room { largest_tail ≤ vec_capacity buffer.new }
 {
     let size = body.len();
     buffer.clear();

@@ -1,23 +1,24 @@
 // A journal of no bodies is made beside, and renamed once it is durable.
-ghost use Rattle.std.specs.Prelude.{◌≡◌, [], OnOk};
+ghost use Rattle.std.specs.Prelude.{◌≡◌, [], length, OnOk};
 ghost use Rattle.dm_types.specs.Faults.{HasCause};
 ghost use Rattle.dm_disk_model.specs.Faults.{disk_kind};
 ghost use Rattle.dm_disk_model.specs.Disk.{History, IsSoundDisk, now, Stands, StandsNot};
 ghost use Rattle.dm_disk_model.specs.Moments.{Reached};
+ghost use Rattle.dm_disk_model.specs.Names.{NeverStands};
+ghost use Rattle.dm_journal.specs.Text.{header};
 ghost use Rattle.dm_journal.specs.AtRest.{journal_place, AtRest};
-ghost use Rattle.dm_journal.specs.Starting.{spare_place, Shows, IsAsBefore, HasSpare, IsBlank, Comes};
+ghost use Rattle.dm_journal.specs.Starting.{spare_place, blank, LeavesOldOr, IsAsBefore, HasSpare, IsTextFile, EndsIn, ChangesTheTwo};
 
+use crate::text::BLANK;
 use dm_disk_model::{Area, Disk, DiskFault, Place};
-
-/// The header and a closed gate.
-const BLANK: [u8; 9] = *b"DMJRNL1\n\0";
 
 /// Removes what an earlier start left.
 fn clear_spare<D: Disk>(disk: &mut D, spare: &Place) -> Result<(), DiskFault>
     requires place { spare.now ≡ spare_place }
-    ensures does { D.tells → (start : History) → IsSoundDisk (now start) → Reached start (D.history disk.old) (Shows (now start)) (IsAsBefore (now start))
-        → Comes start (D.history disk.new) (IsAsBefore (now start)) result }
+    ensures does { D.tells → (start : History) → IsSoundDisk (now start) → Reached start (D.history disk.old) (LeavesOldOr [] (now start)) (IsAsBefore (now start))
+        → EndsIn [] start (D.history disk.new) (IsAsBefore (now start)) result }
     ensures stands_not { D.tells → OnOk result (StandsNot (now (D.history disk.new)) spare_place) }
+    ensures others { D.tells → ChangesTheTwo (now (D.history disk.old)) (now (D.history disk.new)) }
     ensures cause { HasCause disk_kind (D.faults disk.old) (D.faults disk.new) result }
     ensures far { D.far disk.new ≡ D.far disk.old }
 {
@@ -32,9 +33,10 @@ fn clear_spare<D: Disk>(disk: &mut D, spare: &Place) -> Result<(), DiskFault>
 fn make_spare<D: Disk>(disk: &mut D, spare: &Place) -> Result<(), DiskFault>
     requires place { spare.now ≡ spare_place }
     requires stands_not { D.tells → StandsNot (now (D.history disk.old)) spare_place }
-    ensures does { D.tells → (start : History) → IsSoundDisk (now start) → Reached start (D.history disk.old) (Shows (now start)) (IsAsBefore (now start))
-        → Comes start (D.history disk.new) (HasSpare (now start) IsBlank) result }
+    ensures does { D.tells → (start : History) → IsSoundDisk (now start) → Reached start (D.history disk.old) (LeavesOldOr [] (now start)) (IsAsBefore (now start))
+        → EndsIn [] start (D.history disk.new) (HasSpare (now start) (IsTextFile blank)) result }
     ensures stands { D.tells → OnOk result (Stands (now (D.history disk.new)) spare_place) }
+    ensures others { D.tells → ChangesTheTwo (now (D.history disk.old)) (now (D.history disk.new)) }
     ensures cause { HasCause disk_kind (D.faults disk.old) (D.faults disk.new) result }
     ensures far { D.far disk.new ≡ D.far disk.old }
 {
@@ -49,8 +51,10 @@ fn give_name<D: Disk>(disk: &mut D, spare: &Place, place: &Place) -> Result<(), 
     requires spare { spare.now ≡ spare_place }
     requires place { place.now ≡ journal_place }
     requires stands { D.tells → Stands (now (D.history disk.old)) spare_place }
-    ensures does { D.tells → (start : History) → IsSoundDisk (now start) → Reached start (D.history disk.old) (Shows (now start)) (HasSpare (now start) IsBlank)
-        → Comes start (D.history disk.new) (λ disk. AtRest disk 8 []) result }
+    ensures does { D.tells → (start : History) → IsSoundDisk (now start) → Reached start (D.history disk.old) (LeavesOldOr [] (now start)) (HasSpare (now start) (IsTextFile blank))
+        → EndsIn [] start (D.history disk.new) (λ disk. AtRest disk (length header) []) result }
+    ensures others { D.tells → ChangesTheTwo (now (D.history disk.old)) (now (D.history disk.new)) }
+    ensures gone { D.tells → OnOk result (NeverStands spare_place (now (D.history disk.new))) }
     ensures cause { HasCause disk_kind (D.faults disk.old) (D.faults disk.new) result }
     ensures far { D.far disk.new ≡ D.far disk.old }
 {
@@ -67,7 +71,9 @@ pub(crate) fn start_blank<D: Disk>(
 ) -> Result<(), DiskFault>
     requires spare { spare.now ≡ spare_place }
     requires place { place.now ≡ journal_place }
-    ensures does { D.tells → Comes (D.history disk.old) (D.history disk.new) (λ disk. AtRest disk 8 []) result }
+    ensures does { D.tells → EndsIn [] (D.history disk.old) (D.history disk.new) (λ disk. AtRest disk (length header) []) result }
+    ensures others { D.tells → ChangesTheTwo (now (D.history disk.old)) (now (D.history disk.new)) }
+    ensures gone { D.tells → OnOk result (NeverStands spare_place (now (D.history disk.new))) }
     ensures cause { HasCause disk_kind (D.faults disk.old) (D.faults disk.new) result }
     ensures far { D.far disk.new ≡ D.far disk.old }
 {

@@ -1,11 +1,10 @@
-ghost use Rattle.std.specs.Prelude.{◌≡◌, ◌++◌, ◌⊎◌, ℕ, List, MatchOption, Ok, Err};
-ghost use Rattle.dm_journal.specs.Text.{IsJournalText, IsDamagedAt, HasNoHeader, header};
-ghost use Rattle.dm_journal.specs.Outcome.{TextIsRead, WholeIsRead, CellsAreRead};
-ghost use Rattle.dm_journal.specs.declared.fault.TextFault.TheVariants as faults;
+// The journal's text, as far as it was read.
+ghost use Rattle.std.specs.Prelude.{◌≡◌, ◌+◌, ◌++◌, ℕ, ◌≤◌, List, length, MatchOption, IfOk};
+ghost use Rattle.dm_journal.specs.Text.{HasNoHeader, header};
+ghost use Rattle.dm_journal.specs.Taking.{TakesCells};
 
-use crate::TextFault;
 use crate::cell::{AtGate, at_gate};
-use dm_types::{Listed, Text};
+use dm_types::{Listed, NoMemory, Text};
 use std::alloc::Global;
 
 /// The bodies of a journal, the oldest first.
@@ -19,56 +18,67 @@ pub(crate) struct WholeText {
     pub(crate) gate: u64,
 }
 
-const HEADER: [u8; 8] = *b"DMJRNL1\n";
-
-/// Reads the whole text of a journal.
-pub fn read_journal(alloc: Global, bytes: &[u8]) -> Result<Bodies, TextFault>
-    ensures read { TextIsRead bytes.now result }
-    ensures bodies { (bodies : List (List ℕ)) → IsJournalText bodies bytes.now → (result ≡ Ok bodies) ⊎ (result ≡ Err faults.NoMemory) }
-    ensures damaged { (place : ℕ) → IsDamagedAt bytes.now place → (result ≡ Err (faults.Damaged place)) ⊎ (result ≡ Err faults.NoMemory) }
-{
-    match read_text(alloc, bytes) {
-        Ok(found) => Ok(found.bodies),
-        Err(fault) => Err(fault),
-    }
+/// What stands behind the whole cells at the front of some bytes.
+#[derive(Clone, Copy)]
+pub(crate) enum End {
+    /// A closed gate.
+    Shut,
+    /// An open gate of which no bytes behind make a whole cell.
+    Broken,
+    /// What only the next bytes tell.
+    More,
 }
 
-/// Reads the whole text, and where its closed gate stands.
-pub(crate) fn read_text(alloc: Global, bytes: &[u8]) -> Result<WholeText, TextFault>
-    ensures { WholeIsRead bytes.now result }
-{
-    match after_header(bytes) {
-        Some(cells) => read_cells(alloc, cells),
-        None => Err(TextFault::Damaged(0)),
-    }
+/// How many bytes the whole cells have, and what stands behind them.
+#[derive(Clone, Copy)]
+pub(crate) struct Taken {
+    pub(crate) count: usize,
+    pub(crate) end: End,
 }
 
-fn after_header(bytes: &[u8]) -> Option<&[u8]>
+/// The first bytes of a journal.
+pub(crate) const HEADER: [u8; 8] = *b"DMJRNL1\n";
+
+/// The header and a closed gate: a journal of no bodies.
+pub(crate) const BLANK: [u8; 9] = *b"DMJRNL1\n\0";
+
+/// What stands behind the header.
+pub(crate) fn after_header(bytes: &[u8]) -> Option<&[u8]>
     ensures { MatchOption result (HasNoHeader bytes.now) (λ cells. bytes.now ≡ header ++ cells.now) }
 {
     bytes.strip_prefix(HEADER.as_slice())
 }
 
-/// Reads the cells behind the header.
-fn read_cells(alloc: Global, cells: &[u8]) -> Result<WholeText, TextFault>
-    ensures { CellsAreRead cells.now result }
+/// Adds the bodies of the whole cells at the front of the bytes.
+pub(crate) fn take_cells(
+    alloc: Global,
+    bytes: &[u8],
+    bodies: &mut Bodies,
+) -> Result<Taken, NoMemory>
+    ensures { IfOk result (TakesCells bodies.old bodies.new bytes.now) }
 {
-    let mut bodies: Bodies = Listed::new(alloc);
-    let mut rest = cells;
+    let mut rest = bytes;
     'cells: loop {
         match at_gate(rest) {
-            AtGate::Shut => {
-                let gate = (HEADER.len() + (cells.len() - rest.len())) as u64;
-                return Ok(WholeText { bodies, gate });
-            }
             AtGate::Cell(body, after) => {
                 bodies.push(Text::from_bytes(alloc, body)?)?;
                 rest = after;
             }
-            AtGate::Broken => {
-                let place = HEADER.len() + (cells.len() - rest.len());
-                return Err(TextFault::Damaged(place as u64));
-            }
+            AtGate::Shut => return Ok(up_to(bytes, rest, End::Shut)),
+            AtGate::Broken => return Ok(up_to(bytes, rest, End::Broken)),
+            AtGate::More => return Ok(up_to(bytes, rest, End::More)),
         }
+    }
+}
+
+/// The whole cells are all of the bytes but the rest.
+fn up_to(bytes: &[u8], rest: &[u8], end: End) -> Taken
+    requires { length rest.now ≤ length bytes.now }
+    ensures count { result.count + length rest.now ≡ length bytes.now }
+    ensures end { result.end ≡ end }
+{
+    Taken {
+        count: bytes.len() - rest.len(),
+        end,
     }
 }

@@ -132,6 +132,14 @@ pub(crate) fn put(disk: &mut MemoryDisk, place: &Place, bytes: &[u8]) -> Result<
     }
 }
 
+/// Writes one byte at a place far behind what stands there.
+pub(crate) fn stretch(disk: &mut MemoryDisk, place: &Place, at: u64) -> Result<(), DiskFault> {
+    match disk.length(place)? {
+        Some(_) => disk.write_at(place, at, &[1]),
+        None => Err(DiskFault(DiskKind::Failed)),
+    }
+}
+
 /// Whether the file holds just these bytes, at most 999.
 pub(crate) fn holds(
     alloc: Global,

@@ -1,5 +1,5 @@
 // What is found of a journal: whole, cut, stopped at each call, and after each failing call.
-use crate::bench::{add, begin, disk, finds, found, holds, home, put, session};
+use crate::bench::{add, begin, disk, finds, found, holds, home, put, session, stretch};
 use dm_disk::{Area, MemoryDisk, Pick, Place};
 use dm_journal::{Journal, JournalFault};
 use dm_types::{DiskKind, NoMemory, Text};
@@ -89,13 +89,52 @@ fn the_added_entries_are_written_so(rt: HostRuntime) -> Result<(), Fail> {
     Ok(())
 }
 
+/// The first of some texts that are no journal of which something else is found than the place that
+/// shows it: cut ones, bodies of no byte and of one too many, and another header.
+fn first_taken(alloc: Global) -> Result<Option<usize>, Fail> {
+    let damaged: [(&[u8], u64); 8] = [
+        (b"", 0),
+        (&ADDED[..7], 0),
+        (&ADDED[..8], 8),
+        (&ADDED[..40], 26),
+        (&ADDED[..63], 63),
+        (b"DMJRNL1\n\x01\0\0\0\0\0", 8),
+        (b"DMJRNL1\n\x01\0\0\x40\x01\0", 8),
+        (b"DMJRNL2\n\0", 0),
+    ];
+    for (row, (bytes, place)) in damaged.iter().enumerate() {
+        if found_of(alloc, bytes)? != Err(JournalFault::Damaged(*place)) {
+            return Ok(Some(row));
+        }
+    }
+    Ok(None)
+}
+
 #[test]
-fn a_cut_journal_is_damaged(rt: HostRuntime) -> Result<(), Fail> {
-    assert_eq!(rt;
-        found_of(rt.alloc(), &ADDED[..40])?,
-        Err(JournalFault::Damaged(26))
-    );
-    assert_eq!(rt; found_of(rt.alloc(), b"")?, Err(JournalFault::Damaged(0)));
+fn texts_that_are_no_journal_are_damaged(rt: HostRuntime) -> Result<(), Fail> {
+    assert_eq!(rt; first_taken(rt.alloc())?, None);
+    assert_eq!(rt; found_of(rt.alloc(), b"DMJRNL1\n\0")?, Ok(Some((0, 9))));
+    Ok(())
+}
+
+/// What is found of a journal with 200,000 bytes behind its closed gate, where this call is denied. Six
+/// calls make the file, and four find it: it is read once.
+fn found_before_a_tail(
+    alloc: Global,
+    failing: u64,
+) -> Result<Result<Option<(u64, u64)>, JournalFault>, Fail> {
+    let mut there = disk(alloc, Some(failing), None)?;
+    let place = home(alloc)?;
+    put(&mut there, &place, &ADDED)?;
+    stretch(&mut there, &place, 200_000)?;
+    Ok(found(alloc, &mut there))
+}
+
+#[test]
+fn what_stands_behind_the_closed_gate_is_not_read(rt: HostRuntime) -> Result<(), Fail> {
+    let denied = Err(JournalFault::Disk(DiskKind::Denied));
+    assert_eq!(rt; found_before_a_tail(rt.alloc(), 9)?, denied);
+    assert_eq!(rt; found_before_a_tail(rt.alloc(), 10)?, Ok(Some((2, 64))));
     Ok(())
 }
 
@@ -183,7 +222,7 @@ fn is_answered(alloc: Global, call: u64) -> Result<bool, NoMemory> {
 
 /// The first call that fails and isn't answered.
 fn first_unanswered(alloc: Global) -> Result<Option<u64>, NoMemory> {
-    for call in 0..22 {
+    for call in 0..21 {
         if !is_answered(alloc, call)? {
             return Ok(Some(call));
         }
@@ -191,8 +230,8 @@ fn first_unanswered(alloc: Global) -> Result<Option<u64>, NoMemory> {
     Ok(None)
 }
 
-// A session is 17 calls. To find what it left is five: the names and the file are synced with the
-// length between, and the file is read twice, the second time to its end.
+// A session is 17 calls. To find what it left is four: the names and the file are synced with the
+// length between, and the file is read.
 #[test]
 fn each_failing_call_is_answered(rt: HostRuntime) -> Result<(), Fail> {
     assert_eq!(rt; first_unanswered(rt.alloc())?, None);

@@ -12,7 +12,7 @@ use Rattle.dm_record.specs.Spelling.{spelling_of}
 use Rattle.dm_record.specs.Limits.{IsEntry}
 use Rattle.dm_item.specs.Lawful.{History}
 use Rattle.dm_journal.specs.AtRest.{AtRest, HasJournal, WithOrWithout, journal_name, journal_place}
-use Rattle.dm_journal.proofs.Appending.{front_left, front_settled}
+use Rattle.dm_journal.proofs.Leaving.{front_left, front_settled}
 use Rattle.dm_kept.specs.Recovery.{Found, Kept, Recovers, Sits, Through, recovered}
 use Rattle.dm_kept.specs.Room.{IsTaken, MayFollow, most_items}
 use Rattle.dm_kept.specs.Spelled.{AllEntries, Records, bodies_of}

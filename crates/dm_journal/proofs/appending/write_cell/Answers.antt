@@ -1,7 +1,10 @@
 use Rattle.std.proofs.Common.{◌+◌, ◌∷◌, [], Ok, Err, ◌∙◌, arith}
+use Rattle.dm_disk_model.proofs.Places.{write_others, sync_others}
+use Rattle.dm_journal.specs.AtRest.{journal_place}
+use Rattle.dm_journal.proofs.Others.{only_then}
 use Rattle.dm_journal.proofs.Calls.{write_home, sync_home, fill_failed, fill_done, settle_failed, settle_done, open_failed, open_done, keep_failed, keep_done, appended_reads}
 use Rattle.dm_disk_model.specs.Disk.{now}
-use Rattle.dm_journal.proofs.opening.write_cell.Goals as goal
+use Rattle.dm_journal.proofs.appending.write_cell.Goals as goal
 
 pub returns-in_err-write_at-clause-any_moment : goal.returns-in_err-write_at-clause-any_moment
 returns-in_err-write_at-clause-any_moment g c tells bodies body fits is rest =
@@ -94,3 +97,66 @@ returns-in_err-sync-2-clause-far g c near =
 pub returns-clause-far : goal.returns-clause-far
 returns-clause-far g c near =
     c.sync-2.ensures.far ∙ c.write_at-2.ensures.far.near (omega (arith, near, c.requires.near)) ∙ c.sync.ensures.far ∙ c.write_at.ensures.far.near (omega (arith, near))
+
+pub returns-in_err-write_at-clause-others : goal.returns-in_err-write_at-clause-others
+returns-in_err-write_at-clause-others g c tells =
+    let history = g.D.Disk.history in
+    let home = c.requires.place in
+    let start = history c.args.disk.now in
+    let past_write_at = history c.write_at.new.self in
+    let others_write_at = write_others journal_place (now start) (now past_write_at) (g.met.D.Disk.sound tells c.args.disk.now start.moment) (c.args.gate + 1) c.args.tail.now (Err c.in_err-write_at.field-0.0) (write_home c.args.place.now (c.args.gate + 1) c.args.tail.now (Err c.in_err-write_at.field-0.0) start past_write_at home (c.in_err-write_at.ensures.done tells)).stepped in
+    others_write_at
+
+pub returns-in_err-sync-clause-others : goal.returns-in_err-sync-clause-others
+returns-in_err-sync-clause-others g c tells =
+    let history = g.D.Disk.history in
+    let home = c.requires.place in
+    let start = history c.args.disk.now in
+    let past_write_at = history c.write_at.new.self in
+    let others_write_at = write_others journal_place (now start) (now past_write_at) (g.met.D.Disk.sound tells c.args.disk.now start.moment) (c.args.gate + 1) c.args.tail.now (Ok tt) (write_home c.args.place.now (c.args.gate + 1) c.args.tail.now (Ok tt) start past_write_at home (c.in_ok-write_at.ensures.done tells)).stepped in
+    let past_sync = history c.sync.new.self in
+    let others_sync = only_then journal_place (now start) (now past_write_at) (now past_sync) others_write_at (sync_others journal_place (now past_write_at) (now past_sync) (g.met.D.Disk.sound tells c.write_at.new.self past_write_at.moment) (Err c.in_err-sync.field-0.0) (sync_home c.args.place.now (Err c.in_err-sync.field-0.0) past_write_at past_sync home (c.in_err-sync.ensures.done tells)).stepped) in
+    others_sync
+
+pub returns-in_err-write_at-2-clause-others : goal.returns-in_err-write_at-2-clause-others
+returns-in_err-write_at-2-clause-others g c tells =
+    let history = g.D.Disk.history in
+    let home = c.requires.place in
+    let start = history c.args.disk.now in
+    let past_write_at = history c.write_at.new.self in
+    let others_write_at = write_others journal_place (now start) (now past_write_at) (g.met.D.Disk.sound tells c.args.disk.now start.moment) (c.args.gate + 1) c.args.tail.now (Ok tt) (write_home c.args.place.now (c.args.gate + 1) c.args.tail.now (Ok tt) start past_write_at home (c.in_ok-write_at.ensures.done tells)).stepped in
+    let past_sync = history c.sync.new.self in
+    let others_sync = only_then journal_place (now start) (now past_write_at) (now past_sync) others_write_at (sync_others journal_place (now past_write_at) (now past_sync) (g.met.D.Disk.sound tells c.write_at.new.self past_write_at.moment) (Ok tt) (sync_home c.args.place.now (Ok tt) past_write_at past_sync home (c.in_ok-sync.ensures.done tells)).stepped) in
+    let past_write_at_2 = history c.write_at-2.new.self in
+    let others_write_at_2 = only_then journal_place (now start) (now past_sync) (now past_write_at_2) others_sync (write_others journal_place (now past_sync) (now past_write_at_2) (g.met.D.Disk.sound tells c.sync.new.self past_sync.moment) c.args.gate (1 ∷ []) (Err c.in_err-write_at-2.field-0.0) (write_home c.args.place.now c.args.gate (1 ∷ []) (Err c.in_err-write_at-2.field-0.0) past_sync past_write_at_2 home (c.in_err-write_at-2.ensures.done tells)).stepped) in
+    others_write_at_2
+
+pub returns-in_err-sync-2-clause-others : goal.returns-in_err-sync-2-clause-others
+returns-in_err-sync-2-clause-others g c tells =
+    let history = g.D.Disk.history in
+    let home = c.requires.place in
+    let start = history c.args.disk.now in
+    let past_write_at = history c.write_at.new.self in
+    let others_write_at = write_others journal_place (now start) (now past_write_at) (g.met.D.Disk.sound tells c.args.disk.now start.moment) (c.args.gate + 1) c.args.tail.now (Ok tt) (write_home c.args.place.now (c.args.gate + 1) c.args.tail.now (Ok tt) start past_write_at home (c.in_ok-write_at.ensures.done tells)).stepped in
+    let past_sync = history c.sync.new.self in
+    let others_sync = only_then journal_place (now start) (now past_write_at) (now past_sync) others_write_at (sync_others journal_place (now past_write_at) (now past_sync) (g.met.D.Disk.sound tells c.write_at.new.self past_write_at.moment) (Ok tt) (sync_home c.args.place.now (Ok tt) past_write_at past_sync home (c.in_ok-sync.ensures.done tells)).stepped) in
+    let past_write_at_2 = history c.write_at-2.new.self in
+    let others_write_at_2 = only_then journal_place (now start) (now past_sync) (now past_write_at_2) others_sync (write_others journal_place (now past_sync) (now past_write_at_2) (g.met.D.Disk.sound tells c.sync.new.self past_sync.moment) c.args.gate (1 ∷ []) (Ok tt) (write_home c.args.place.now c.args.gate (1 ∷ []) (Ok tt) past_sync past_write_at_2 home (c.in_ok-write_at-2.ensures.done tells)).stepped) in
+    let past_sync_2 = history c.sync-2.new.self in
+    let others_sync_2 = only_then journal_place (now start) (now past_write_at_2) (now past_sync_2) others_write_at_2 (sync_others journal_place (now past_write_at_2) (now past_sync_2) (g.met.D.Disk.sound tells c.write_at-2.new.self past_write_at_2.moment) (Err c.in_err-sync-2.field-0.0) (sync_home c.args.place.now (Err c.in_err-sync-2.field-0.0) past_write_at_2 past_sync_2 home (c.in_err-sync-2.ensures.done tells)).stepped) in
+    others_sync_2
+
+pub returns-clause-others : goal.returns-clause-others
+returns-clause-others g c tells =
+    let history = g.D.Disk.history in
+    let home = c.requires.place in
+    let start = history c.args.disk.now in
+    let past_write_at = history c.write_at.new.self in
+    let others_write_at = write_others journal_place (now start) (now past_write_at) (g.met.D.Disk.sound tells c.args.disk.now start.moment) (c.args.gate + 1) c.args.tail.now (Ok tt) (write_home c.args.place.now (c.args.gate + 1) c.args.tail.now (Ok tt) start past_write_at home (c.in_ok-write_at.ensures.done tells)).stepped in
+    let past_sync = history c.sync.new.self in
+    let others_sync = only_then journal_place (now start) (now past_write_at) (now past_sync) others_write_at (sync_others journal_place (now past_write_at) (now past_sync) (g.met.D.Disk.sound tells c.write_at.new.self past_write_at.moment) (Ok tt) (sync_home c.args.place.now (Ok tt) past_write_at past_sync home (c.in_ok-sync.ensures.done tells)).stepped) in
+    let past_write_at_2 = history c.write_at-2.new.self in
+    let others_write_at_2 = only_then journal_place (now start) (now past_sync) (now past_write_at_2) others_sync (write_others journal_place (now past_sync) (now past_write_at_2) (g.met.D.Disk.sound tells c.sync.new.self past_sync.moment) c.args.gate (1 ∷ []) (Ok tt) (write_home c.args.place.now c.args.gate (1 ∷ []) (Ok tt) past_sync past_write_at_2 home (c.in_ok-write_at-2.ensures.done tells)).stepped) in
+    let past_sync_2 = history c.sync-2.new.self in
+    let others_sync_2 = only_then journal_place (now start) (now past_write_at_2) (now past_sync_2) others_write_at_2 (sync_others journal_place (now past_write_at_2) (now past_sync_2) (g.met.D.Disk.sound tells c.write_at-2.new.self past_write_at_2.moment) (Ok tt) (sync_home c.args.place.now (Ok tt) past_write_at_2 past_sync_2 home (c.in_ok-sync-2.ensures.done tells)).stepped) in
+    others_sync_2

@@ -1,0 +1,18 @@
+use Rattle.std.proofs.Common.{◌≡◌, ◌-◌, ◌^◌, ◌<◌, ◌≤◌, List, ℕ, length, Some}
+use Rattle.dm_disk_model.specs.Disk.{now, bytes_at}
+use Rattle.dm_types.specs.Faults.{NoneFell}
+use Rattle.dm_journal.specs.Reading.{IsFront}
+use Rattle.dm_journal.proofs.reading.read_header.Given as goal
+
+abbrev pub invariant-pieces : goal.invariant-pieces
+invariant-pieces g l = record {
+  stays : g.D.Disk.history l.disk ≡ g.D.Disk.history l.initial.disk;
+  front : g.D.Disk.tells → (file : List ℕ) → bytes_at (now (g.D.Disk.history l.initial.disk)) l.place ≡ Some file → IsFront l.ahead.items file;
+  later : NoneFell (g.D.Disk.faults l.initial.disk) (g.D.Disk.faults l.disk);
+  far : g.D.Disk.far l.disk ≡ g.D.Disk.far l.initial.disk;
+  room : 0 < length l.piece;
+  near : length l.ahead.items ≤ 2 ^ 63;
+}
+
+abbrev pub decreases-pieces : goal.decreases-pieces
+decreases-pieces g l = 8 - length l.ahead.items
