@@ -179,8 +179,7 @@ impl Disk for MemoryDisk {
         ensures far { far_in self.new ≡ far_in self.old }
         ensures turn { MayStarve self.old self.new (fault_of result) }
     {
-        // What stood under the new name is replaced.
-        self.meter.begin()?;
+        self.meter.begin()?; // a call that is refused here has recorded nothing
         match self.log.rename(from, to) {
             Ok(()) => Ok(()),
             Err(NoMemory) => Err(self.meter.starve()),

@@ -69,7 +69,7 @@ impl Meter {
     }
 
     /// The fault of the next call, where it is to fail.
-    pub fn due(&self) -> Option<DiskKind>
+    fn due(&self) -> Option<DiskKind>
         ensures { result ≡ due self.now }
     {
         if self.is_stopped() {
