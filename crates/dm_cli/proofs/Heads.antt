@@ -16,5 +16,5 @@ kind_found now old new told fresh says =
     of_kind told.kind whole.head whole.kind_is
   where
     of_kind : (k : Kind) (head : ResponseHead) → KindSays asks.Whole now new head k → KindFound now new k
-    of_kind kinds.Content head found = found.1
+    of_kind kinds.Content head found = record { head = head; behind = found }
     of_kind (kinds.Redirect location) head found = record { head = head; begins = found }

@@ -9,7 +9,8 @@ use Rattle.dm_edge.specs.Begins.{most_content}
 use Rattle.dm_edge.specs.Reply.{IsWhole, ContentBroke}
 use Rattle.dm_edge.specs.declared.wanted.Wanted.TheVariants as asks
 use Rattle.dm_reply.specs.Faults.{cause_kind}
-use Rattle.dm_reply.specs.Content.{Reader, HasRead}
+use Rattle.dm_reply.specs.Content.{Reader}
+use Rattle.dm_cli.specs.Reading.{HasRead}
 use Rattle.dm_cli.specs.declared.copying.Landed.{Landed}
 use Rattle.dm_cli.specs.declared.copying.Landed.TheVariants.{More, End}
 use Rattle.dm_cli.specs.declared.copying.Stopped.{Stopped}

@@ -12,7 +12,8 @@ use Rattle.dm_reply.specs.declared.head.Kind.{Kind}
 use Rattle.dm_reply.specs.declared.head.Kind.TheVariants as kind
 use Rattle.dm_reply.specs.declared.head.HeadFault.{HeadFault}
 use Rattle.dm_reply.specs.declared.head.HeadFault.TheVariants as fault
-use Rattle.dm_reply.specs.Content.{Reader, HasRead}
+use Rattle.dm_reply.specs.Content.{Reader}
+use Rattle.dm_cli.specs.Reading.{HasRead}
 use Rattle.dm_request.specs.Fault.{IsNext}
 use Rattle.dm_request.specs.Request.{request_of}
 use Rattle.dm_cli.specs.declared.follow.NoContent.{NoContent}

@@ -10,3 +10,4 @@ pub mod Print
 pub mod Redirects
 pub mod Run
 pub mod Steps
+pub mod Reading

@@ -4,7 +4,7 @@ ghost use Rattle.dm_types.specs.Faults.{HasCause};
 ghost use Rattle.dm_disk_model.specs.Disk.{now, Stands, bytes_at};
 ghost use Rattle.dm_disk_model.specs.Moments.{KeepsOthers};
 ghost use Rattle.dm_edge.specs.declared.wanted.Wanted.TheVariants as asks;
-ghost use Rattle.dm_reply.specs.Content.{HasRead};
+ghost use Rattle.dm_cli.specs.Reading.{HasRead};
 ghost use Rattle.dm_cli.specs.Copying.{LandedSays, Moves, CopySays, stopped_wire, stopped_disk};
 
 use dm_disk_model::{Disk, Place};

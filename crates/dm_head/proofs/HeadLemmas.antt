@@ -2,7 +2,7 @@
 use Rattle.std.specs.Prelude.{codes}
 use Rattle.std.specs.List.{flat_map}
 use Rattle.std.proofs.Common.{◌≡◌, ◌≢◌, ℕ, ◌+◌, ◌-◌, ◌<◌, ◌≤◌, ◌⊎◌, inl, inr, true, false, List, [], ◌∷◌, ◌++◌, length, take, drop, map, refl, sym, ap, ◌∙◌, subst, arith, append_assoc, length-append, All}
-use Rattle.std.proofs.lemmas.List.{length-take, length-map}
+use Rattle.std.proofs.lemmas.List.{length-take, length-map, take_at}
 use Rattle.std.proofs.Math.Seq.{take-append-add}
 use Rattle.httparse.specs.declared.Error.{Error}
 use Rattle.httparse.specs.declared.Error.TheVariants as error
@@ -12,12 +12,13 @@ use Rattle.httparse.specs.declared.spans.ResponseSpans.{ResponseSpans}
 use Rattle.httparse.specs.Grammar.{ResponseHead, print_response, print_blank, print_version, print_reason, print_end, print_field, HasNoResponse, NeverHasResponse, status_code}
 use Rattle.httparse.specs.Spans.{IsResponseAt, IsResponseWithin, ResponseExceeds, IsHeaderWithin, header_bytes, span_bytes, name_and_value}
 use Rattle.httparse.proofs.GrammarLemmas.{ReadsResponse-append}
+use Rattle.dm_policy.specs.declared.cause.Cause.TheVariants as cause
 use Rattle.dm_edge.specs.Fields.{NameAndValue, values_of, fields_of, FramedBy, IsUnframeable, is_plain}
-use Rattle.dm_edge.specs.Head.{most_head, most_fields, BeginsWith, BeginsFinal, HasManyLines, IsBadHead, never, many, is_interim}
+use Rattle.dm_edge.specs.Head.{most_head, most_fields, BeginsWith, BeginsFinal, HasManyLines, IsBadHead, never, long, many, is_interim}
 use Rattle.dm_edge.specs.declared.wanted.Wanted.{Wanted}
 use Rattle.dm_edge.specs.declared.framing.Framing.{Framing}
 use Rattle.dm_edge.specs.declared.framing.Framing.TheVariants.{Counted}
-use Rattle.dm_edge.specs.Begins.{content_status, leads_on, refuses_range, most_content, LeadsTo, GoesOn, IsGoodHead, Fits, IsOtherPart, MissesSize, TellsWhole, HasLostRedirect, HasEncoded, HasBadFraming, HasOtherStatus, HasRefusal, HasOtherPart, HasOtherSize, HasTooLarge}
+use Rattle.dm_edge.specs.Begins.{content_status, leads_on, refuses_range, most_content, LeadsTo, GoesOn, IsGoodHead, Fits, IsOtherPart, MissesSize, TellsWhole, HasLostRedirect, HasEncoded, HasBadFraming, HasOtherStatus, HasRefusal, HasOtherPart, HasOtherSize, HasTooLarge, FrontBroke}
 use Rattle.dm_head.specs.declared.framing.Framed.TheVariants as framed
 use Rattle.dm_head.specs.declared.whole.Kind.TheVariants as kind
 use Rattle.dm_head.specs.declared.fields.Values.{Values}
@@ -303,3 +304,8 @@ refused_bad wanted front small e none exceeds more = elim (too_many_or_not e) [
   | inl is ↦ inl (many (many_in_limit front small (exceeds_many (exceeds is)) more))
   | inr other ↦ inl (never (never_more front small (none other) more))
 ]
+
+-- as many bytes as a head may have hold none
+pub full_bad : (wanted : Wanted) (front : List ℕ) → HasNoResponse front → length front ≡ most_head → (more : List ℕ) → FrontBroke wanted (front ++ more) cause.BadHead
+full_bad wanted front none full more =
+    inl (long (omega (arith, full, length-append front more)) (subst HasNoResponse (sym (take_at front more most_head full)) none))

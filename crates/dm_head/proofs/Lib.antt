@@ -1,5 +1,4 @@
 pub mod FieldLemmas
-pub mod FoundLemmas
 pub mod FramingLemmas
 pub mod HeadLemmas
 pub mod LineLemmas

@@ -2,10 +2,10 @@
 use Rattle.std.specs.Prelude.{◌≡◌, ℕ, ◌<◌, ◌≤◌, List, ◌++◌, length, drop}
 use Rattle.httparse.specs.declared.spans.Span.{Span}
 use Rattle.httparse.specs.Spans.{IsWithin, span_bytes}
-use Rattle.httparse.specs.Grammar.{ResponseHead, HasNoResponse, MayBecomeResponse, status_code}
+use Rattle.httparse.specs.Grammar.{ResponseHead, status_code}
 use Rattle.dm_edge.specs.declared.framing.Framing.{Framing}
 use Rattle.dm_edge.specs.Fields.{fields_of}
-use Rattle.dm_edge.specs.Head.{HasManyLines, BeginsFinal, PassesOne}
+use Rattle.dm_edge.specs.Head.{BeginsFinal, IsHeadCut, PassesOne}
 use Rattle.dm_edge.specs.Begins.{content_status, LeadsTo, IsGoodHead, KeepsLimit, Fits, FrontBroke}
 use Rattle.dm_edge.specs.declared.wanted.Wanted.{Wanted}
 use Rattle.dm_head.specs.Fit.{IsExtent, IsWithinLimit}
@@ -48,16 +48,11 @@ pub record FindsRedirect (wanted : Wanted) (front : List ℕ) (status : ℕ) (lo
   pub within : IsWithin (length front) location
   pub metadata_is : IsMetadata front (fields_of head) metadata
 
--- no whole head stands there, and one may come
-pub record IsOpen (front : List ℕ) : Type 0 where
-  pub none : HasNoResponse front
-  pub open_head : MayBecomeResponse front
-  pub few : HasManyLines front → ⊥
-
--- What is refused is refused whatever follows.
+-- What is refused is refused whatever follows. Where a head is open, fewer than 65,536 bytes stand there, no whole head does, and one may come: a
+-- stream that ends there is cut.
 abbrev pub Finds : Wanted → List ℕ → Look → Type 0
 Finds wanted front (look.Interim size status) = FindsInterim front size status
 Finds wanted front (look.Content start framing extent metadata) = FindsContent wanted front start framing extent metadata
 Finds wanted front (look.Redirect status location metadata) = FindsRedirect wanted front status location metadata
 Finds wanted front (look.Refused cause) = (more : List ℕ) → FrontBroke wanted (front ++ more) cause
-Finds wanted front look.Open = IsOpen front
+Finds wanted front look.Open = IsHeadCut front

@@ -12,6 +12,9 @@ use dm_policy::Cause;
 use httparse::Status;
 use httparse::spans::{EMPTY_HEADER_SPAN, Span, parse_response};
 
+/// The most bytes of a head, with its empty line.
+const MOST_HEAD: usize = 65_536;
+
 /// The most fields of a head.
 const MOST_FIELDS: usize = 100;
 
@@ -38,7 +41,7 @@ pub enum Look {
     },
     /// What ends the reply, whatever follows.
     Refused(Cause),
-    /// The first bytes of a head.
+    /// The first bytes of a head, fewer than one may have.
     Open,
 }
 
@@ -51,6 +54,7 @@ pub fn look_at(front: &[u8], wanted: &Wanted) -> Look
     match parse_response(front, &mut fields) {
         Ok(Status::Complete(head)) => look_at_whole(front, &head, &fields[..head.headers], wanted),
         Ok(Status::Partial) if begins_too_many(front) => Look::Refused(Cause::BadHead),
+        Ok(Status::Partial) if front.len() == MOST_HEAD => Look::Refused(Cause::BadHead),
         Ok(Status::Partial) => Look::Open,
         Err(_) => Look::Refused(Cause::BadHead),
     }

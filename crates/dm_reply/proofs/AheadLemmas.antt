@@ -1,11 +1,11 @@
 -- What lies ahead, in the buffer.
-use Rattle.std.proofs.Common.{◌≡◌, ℕ, ◌+◌, ◌-◌, ◌<◌, ◌≤◌, List, ◌++◌, length, take, drop, slice_range, sym, ap, ◌∙◌, subst, arith, length-drop, Result, Ok, Err, IfOk, MatchResult}
-use Rattle.std.proofs.lemmas.List.{take-append-le, length-take-le, drop-take, drop-drop}
+use Rattle.std.proofs.Common.{◌≡◌, ℕ, ◌+◌, ◌-◌, ◌<◌, ◌≤◌, List, [], ◌++◌, length, take, drop, slice_range, sym, ap, ◌∙◌, subst, arith, length-drop, append_assoc, Result, Ok, Err, IfOk, MatchResult}
+use Rattle.std.proofs.lemmas.List.{append-nil, take-append-le, length-take-le, drop-take, drop-drop}
 use Rattle.std.proofs.Math.Seq.{take-append-add}
 use borrow.Rule.Slice.PartMut.{put_mid}
 use Rattle.dm_edge.specs.Wire.{Told, Receives}
 use Rattle.dm_edge.specs.declared.fault.WireFault.{WireFault}
-use Rattle.dm_reply.specs.Ahead.{Grows, Stays}
+use Rattle.dm_reply.specs.Ahead.{Grows, Stays, Continues}
 
 -- what lies ahead without its first bytes
 pub drop_ahead : (xs : List ℕ) (start n end : ℕ) → start + n ≤ end
@@ -41,3 +41,19 @@ receive_grows (Ok n) before now end buffer piece room size got within = record {
   ended = λ none. got.given.2 none (omega (arith, size, range_size buffer end (length buffer) (omega arith)));
 }
 receive_grows (Err fault) before now end buffer piece room size got within = record { given = got.given.0; left = got.given.1 }
+
+pub continues_none : (told : Told) (ahead : List ℕ) → Continues told told ahead ahead
+continues_none told ahead = record { piece = []; ahead = sym (append-nil ahead); given = sym (append-nil told.given) }
+
+-- one more receive
+pub continues_then : (before first now : Told) (old between new : List ℕ) (n : ℕ) → Continues before first old between → Grows first now between new n
+    → Continues before now old new
+continues_then before first now old between new n on grows = record {
+  piece = on.piece ++ grows.piece;
+  ahead = grows.ahead ∙ ap (λ t. t ++ grows.piece) on.ahead ∙ append_assoc old on.piece grows.piece;
+  given = grows.given ∙ ap (λ t. t ++ grows.piece) on.given ∙ append_assoc before.given on.piece grows.piece;
+}
+
+-- a receive that failed
+pub continues_stays : (before first now : Told) (old between new : List ℕ) → Continues before first old between → Stays first now → new ≡ between → Continues before now old new
+continues_stays before first now old between new on stays same = record { piece = on.piece; ahead = same ∙ on.ahead; given = stays.given ∙ on.given }

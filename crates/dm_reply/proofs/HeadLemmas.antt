@@ -2,19 +2,21 @@
 use Rattle.std.specs.Prelude.{codes, nat_le}
 use Rattle.std.specs.Option.{option_map}
 use Rattle.std.proofs.lemmas.Bool.{leb-true}
-use Rattle.std.proofs.Common.{◌≡◌, ◌↔◌, Bool, true, false, IsTrue, ℕ, ◌+◌, ◌<◌, ◌≤◌, ◌⊎◌, inl, inr, List, [], ◌∷◌, ◌++◌, length, drop, refl, sym, ap, ◌∙◌, subst, arith, Result, Ok, Err, IfOk, IfSome, Option, Some, None, length-append}
-use Rattle.std.proofs.lemmas.List.{append-nil, take_at}
+use Rattle.std.proofs.Common.{◌≡◌, ◌↔◌, Bool, true, false, IsTrue, ℕ, ◌+◌, ◌-◌, ◌*◌, ◌<◌, ◌≤◌, ◌⊎◌, inl, inr, List, [], ◌∷◌, ◌++◌, length, drop, refl, sym, ap, ◌∙◌, subst, arith, Result, Ok, Err, IfOk, IfSome, Option, Some, None}
+use Rattle.std.proofs.lemmas.List.{append-nil}
 use Rattle.httparse.specs.declared.spans.Span.{Span}
 use Rattle.httparse.specs.Spans.{IsWithin, span_bytes}
-use Rattle.httparse.specs.Grammar.{ResponseHead, HasNoResponse}
+use Rattle.httparse.specs.Grammar.{ResponseHead}
 use Rattle.dm_policy.specs.declared.cause.Cause.{Cause}
 use Rattle.dm_policy.specs.declared.cause.Cause.TheVariants as cause
 use Rattle.dm_types.specs.Faults.{HasCause, NoneFell, Rose}
 use Rattle.dm_edge.specs.declared.fault.WireFault.{WireFault}
+use Rattle.dm_edge.specs.declared.fault.WireFault.TheVariants as wire
+use Rattle.dm_edge.specs.Causes.{is_head_cause}
 use Rattle.dm_reply.specs.Faults.{cause_kind, head_kind}
 use Rattle.dm_edge.specs.Wire.{Told, stream_of}
 use Rattle.dm_edge.specs.declared.framing.Framing.{Framing}
-use Rattle.dm_edge.specs.Head.{most_head, most_interim, Passes, ComesTo, long}
+use Rattle.dm_edge.specs.Head.{most_head, most_interim, Passes, ComesTo, IsHeadCut}
 use Rattle.dm_chunk.specs.Fronts.{IsFrontOf}
 use Rattle.dm_chunk.specs.declared.place.Place.TheVariants.{Digits}
 use Rattle.dm_chunk.proofs.StepLemmas.{front_told, fresh}
@@ -22,15 +24,15 @@ use Rattle.dm_edge.specs.declared.framing.Framing.TheVariants as framing
 use Rattle.dm_edge.specs.declared.wanted.Wanted.{Wanted}
 use Rattle.dm_edge.specs.declared.wanted.Wanted.TheVariants.{Whole, Part}
 use Rattle.dm_edge.specs.Part.{part_size}
-use Rattle.dm_edge.specs.Begins.{content_status, BeginsContent, BeginsRedirect, FrontBroke, HeadBroke, IsOfWire}
-use Rattle.dm_edge.specs.Reply.{IsFramedFront}
+use Rattle.dm_edge.specs.Begins.{content_status, told_total, LeadsTo, BeginsContent, BeginsRedirect, FrontBroke, HeadBroke, IsOfWire}
 use Rattle.dm_head.specs.declared.part.Extent.{Extent}
 use Rattle.dm_head.specs.Fit.{IsExtent, IsWithinLimit}
 use Rattle.dm_edge.specs.Fields.{NameAndValue, values_of, fields_of}
-use Rattle.dm_edge.specs.Metadata.{most_tag, most_modified, only_within, modified_of, IsStrongTag, IsOnlyValue, TakesRanges}
+use Rattle.dm_edge.specs.Metadata.{most_tag, IsStrongTag, IsOnlyValue, TakesRanges}
 use Rattle.dm_head.specs.declared.metadata.Metadata.{Metadata}
 use Rattle.dm_head.specs.Metadata.{CoversStrong, CoversOnly, IsMetadata}
-use Rattle.dm_head.specs.Look.{FindsInterim, FindsContent, FindsRedirect, IsOpen}
+use Rattle.dm_edge.specs.Metadata.{most_modified, only_within}
+use Rattle.dm_head.specs.Look.{FindsInterim, FindsContent, FindsRedirect}
 use Rattle.dm_head.proofs.PassLemmas.{passes_more, comes_more, has_more, ninth_more}
 use Rattle.dm_reply.specs.declared.body.Body.{Body}
 use Rattle.dm_reply.specs.declared.body.Body.TheVariants as body
@@ -38,35 +40,65 @@ use Rattle.dm_reply.specs.declared.found.Found.{Found}
 use Rattle.dm_reply.specs.declared.head.Head.{Head}
 use Rattle.dm_reply.specs.declared.head.HeadFault.{HeadFault}
 use Rattle.dm_reply.specs.declared.head.HeadFault.TheVariants as fault
-use Rattle.dm_reply.specs.declared.head.Kind.{Kind}
 use Rattle.dm_reply.specs.declared.head.Kind.TheVariants as kind
-use Rattle.dm_reply.specs.Ahead.{Grows}
-use Rattle.dm_reply.specs.Content.{Reader, HasFramed, HasRead, IsSized, FieldsSay, HeadSays, HeadBreaks, KindSays, ExtentSays, EndsBy, PlacesSay, IsPlainHead, extent_of, size_told, framing_of}
-use Rattle.dm_reply.specs.Found.{AreWithin, AreShort, HasTexts, Starts, IsContentHead, IsRedirectHead, HasPassed, OpensMore, OpenBroke, MoreSays, IsShortHead, started}
+use Rattle.dm_reply.specs.declared.receiving.Came.{Came}
+use Rattle.dm_reply.specs.declared.receiving.Came.TheVariants as came
+use Rattle.dm_reply.specs.Ahead.{Continues, ShownBy, HeadShows}
+use Rattle.dm_reply.specs.Causes.{IsHeadFault}
+use Rattle.dm_reply.specs.Content.{Reader, HasFramed, HasRead, IsSized, FieldsSay, HeadSays, HeadBreaks, KindSays, ExtentSays, EndsBy, PlacesSay, IsPlainHead, IsFramedAs, extent_of, no_extent, size_told, framing_of}
+use Rattle.dm_reply.specs.Found.{AreWithin, AreShort, HasTexts, Starts, IsContentHead, IsRedirectHead, HasPassed, OpenBroke, MoreSays, IsShortHead, started}
 use Rattle.dm_reply.specs.Unfinished.{LeavesHead}
-use Rattle.dm_reply.specs.Steps.{going}
+use Rattle.dm_reply.specs.Steps.{going, head_fault_of}
 
 -- ---- behind an open head
 
-pub full_broke : (wanted : Wanted) (now : Told) (ahead : List ℕ) → IsOpen ahead → length ahead ≡ most_head → OpenBroke wanted now now ahead cause.BadHead
-full_broke wanted now ahead open_head full = record {
+pub cut_broke : (wanted : Wanted) (now : Told) (ahead : List ℕ) → IsHeadCut ahead → now.left ≡ [] → OpenBroke wanted now now ahead cause.HeadCut
+cut_broke wanted now ahead open_head over = record {
   given = refl;
-  met = inr (inl (long (omega (arith, full, length-append ahead now.left)) (subst HasNoResponse (sym (take_at ahead now.left most_head full)) open_head.none)));
+  met = inr (subst (λ (t : List ℕ). FrontBroke wanted t cause.HeadCut) (sym (ap (λ t. ahead ++ t) over ∙ append-nil ahead)) open_head);
 }
 
-pub cut_broke : (wanted : Wanted) (before now : Told) (old new : List ℕ) → IsOpen old → length old < most_head → Grows before now old new 0
-    → OpenBroke wanted before now old cause.HeadCut
-cut_broke wanted before now old new open_head short grows =
-    let same : old ++ now.left ≡ old = ap (λ t. old ++ t) (grows.ended refl) ∙ append-nil old in
-    record {
-      given = grows.given ∙ ap (λ t. before.given ++ t) (none grows.piece grows.size) ∙ append-nil before.given;
-      met = inr (subst (λ (t : List ℕ). FrontBroke wanted t cause.HeadCut) (sym same)
-          (record { short = short; none = open_head.none; open_head = open_head.open_head; few = open_head.few }));
-    }
-  where
-    none : (xs : List ℕ) → length xs ≡ 0 → xs ≡ []
-    none [] e = refl
-    none (x ∷ xs) e = absurd (omega (arith, e))
+-- what a fault of the wire says of an open head
+pub fault_broke : (wanted : Wanted) (now : Told) (ahead : List ℕ) (fault : WireFault) → MoreSays wanted now now ahead ahead (Err (head_fault_of fault))
+fault_broke wanted now ahead wire.Failed = record { given = refl; met = inl (inl refl) }
+fault_broke wanted now ahead wire.Timeout = record { given = refl; met = inl (inr refl) }
+fault_broke wanted now ahead wire.NoMemory = tt
+
+-- it is a cause of a head, or want of memory
+pub fault_own : (fault : WireFault) → IsHeadFault (head_fault_of fault)
+fault_own wire.Failed = refl
+fault_own wire.Timeout = refl
+fault_own wire.NoMemory = tt
+
+-- and shows in the count that the fault shows in
+pub fault_shows : (before now : WireFault → ℕ) (fault : WireFault) → ShownBy before now (came.Fault fault) → HeadShows before now (head_fault_of fault)
+fault_shows before now wire.Failed shown = shown
+fault_shows before now wire.Timeout shown = shown
+fault_shows before now wire.NoMemory shown = tt
+
+-- what showed in a count shows in it since an earlier moment
+pub shown_since : (before first now : WireFault → ℕ) (next : Came) → NoneFell before first → ShownBy first now next → ShownBy before now next
+shown_since before first now came.Bytes later shown = tt
+shown_since before first now came.End later shown = tt
+shown_since before first now (came.Fault wire.Failed) later shown = omega (arith, later wire.Failed, shown)
+shown_since before first now (came.Fault wire.Timeout) later shown = omega (arith, later wire.Timeout, shown)
+shown_since before first now (came.Fault wire.NoMemory) later shown = tt
+
+-- whether more may come
+abbrev pub more_of : Came → ℕ
+more_of came.Bytes = 1
+more_of came.End = 0
+more_of (came.Fault fault) = 0
+
+-- where more bytes came, or no more will, less is to come
+pub less_left : (old new : ℕ) (before next : Came) → new ≤ most_head → before ≡ came.Bytes → old ≤ new → (next ≡ came.Bytes → old < new)
+    → 2 * (most_head - new) + more_of next < 2 * (most_head - old) + more_of before
+less_left old new before came.Bytes within is order more =
+    subst (λ (b : Came). 2 * (most_head - new) + 1 < 2 * (most_head - old) + more_of b) (sym is) (omega (arith, within, more refl))
+less_left old new before came.End within is order more =
+    subst (λ (b : Came). 2 * (most_head - new) + 0 < 2 * (most_head - old) + more_of b) (sym is) (omega (arith, within, order))
+less_left old new before (came.Fault fault) within is order more =
+    subst (λ (b : Came). 2 * (most_head - new) + 0 < 2 * (most_head - old) + more_of b) (sym is) (omega (arith, within, order))
 
 -- ---- interim heads
 
@@ -81,14 +113,14 @@ one_passed given ahead count size status before finds = record {
   size = omega (arith, before.size);
 }
 
-pub more_passed : (before now : Told) (old new : List ℕ) (count : ℕ) → HasPassed before.given old count → OpensMore before now old new
+pub more_passed : (before now : Told) (old new : List ℕ) (count : ℕ) → HasPassed before.given old count → Continues before now old new
     → HasPassed now.given new count
 more_passed before now old new count passed more = record {
   passed = passed.passed;
   passes =
-      subst (λ (g : List ℕ). Passes g passed.passed new) (sym more.grows.given)
-      (subst (λ (a : List ℕ). Passes (before.given ++ more.grows.piece) passed.passed a) (sym more.grows.ahead)
-      (passes_more before.given passed.passed old passed.passes more.grows.piece));
+      subst (λ (g : List ℕ). Passes g passed.passed new) (sym more.given)
+      (subst (λ (a : List ℕ). Passes (before.given ++ more.piece) passed.passed a) (sym more.ahead)
+      (passes_more before.given passed.passed old passed.passes more.piece));
   size = passed.size;
 }
 
@@ -133,7 +165,7 @@ more_broke wanted before now old new count fault.NoMemory passed few said = tt
 
 -- a fault behind an open head leaves it open
 pub open_leaves : (before now : Told) (old new : List ℕ) (count : ℕ) (refusal : HeadFault) → HasPassed before.given old count → count ≤ most_interim
-    → IsOpen old → ((wanted : Wanted) → MoreSays wanted before now old new (Err refusal)) → LeavesHead now.given refusal
+    → IsHeadCut old → ((wanted : Wanted) → MoreSays wanted before now old new (Err refusal)) → LeavesHead now.given refusal
 open_leaves before now old new count (fault.Broke broke) passed few open_head said = λ wire. record {
   from = old;
   comes = subst (λ (g : List ℕ). ComesTo g old) (sym (said Whole).given) (comes_of before.given old count passed few);
@@ -288,14 +320,13 @@ content_says wanted now ahead behind count start told extent metadata found pass
     let at = starts wanted now.given behind finds.head told found.body is.starts
     (subst (λ (t : List ℕ). BeginsContent wanted now.given finds.head told t) (sym behind_is) begins) in
     let found_extent = subst (IsExtent wanted (fields_of finds.head) told) (sym is.extent_is) finds.extent_is in
-    let read : HasRead wanted now.given (started wanted behind found) [] = record {
-      head = finds.head;
+    let read : HasRead wanted finds.head now.given (started wanted behind found) [] = record {
       framed = at.read;
       sized = sized wanted finds.head told (extent_of found.head) (size_told (extent_of found.head)) found_extent refl;
     } in
     record {
       head = finds.head;
-      kind_is = subst (KindSays wanted now (started wanted behind found) finds.head) (sym is.kind_is) ((behind, at.framed), read);
+      kind_is = subst (KindSays wanted now (started wanted behind found) finds.head) (sym is.kind_is) read;
       status_is = is.status_is ∙ sym finds.ok;
       extent_is = subst (ExtentSays wanted finds.head (framing_of found.body) found.head) (sym is.kind_is)
           (subst (λ (f : Framing). IsExtent wanted (fields_of finds.head) f (extent_of found.head)) at.framing_is found_extent);
@@ -345,16 +376,60 @@ content_plain wanted ahead status start told extent metadata (Ok found) finds is
   modified = short.modified;
 }
 
-pub redirect_plain : (wanted : Wanted) (status : ℕ) (location ahead : List ℕ) (metadata : Metadata) (result : Result Found HeadFault)
-    → IfOk result (IsRedirectHead status location ahead metadata) → IfOk result (λ found. IsShortHead found.head)
-    → IfOk result (λ found. IsPlainHead wanted found.head)
-redirect_plain wanted status location ahead metadata (Err refusal) is short = tt
-redirect_plain wanted status location ahead metadata (Ok found) is short = record {
-  places = subst (PlacesSay wanted found.head) (sym is.kind_is) is.extent_is;
+-- where a part is wanted no head leads on
+redirect_places : (wanted : Wanted) (head : ResponseHead) (location found : List ℕ) (told : Head) → LeadsTo wanted head location → extent_of told ≡ no_extent
+    → PlacesSay wanted told (kind.Redirect found)
+redirect_places Whole head location found told leads is = is
+redirect_places (Part first last tag known) head location found told leads is = absurd (let wrong = leads.redirects in cc)
+
+pub redirect_plain : (wanted : Wanted) (status : ℕ) (location : Span) (ahead : List ℕ) (metadata : Metadata) (result : Result Found HeadFault)
+    → FindsRedirect wanted ahead status location metadata → IfOk result (IsRedirectHead status (span_bytes ahead location) ahead metadata)
+    → IfOk result (λ found. IsShortHead found.head) → IfOk result (λ found. IsPlainHead wanted found.head)
+redirect_plain wanted status location ahead metadata (Err refusal) finds is short = tt
+redirect_plain wanted status location ahead metadata (Ok found) finds is short = record {
+  places = subst (PlacesSay wanted found.head) (sym is.kind_is)
+      (redirect_places wanted finds.head (span_bytes ahead location) (span_bytes ahead location) found.head finds.leads is.extent_is);
   limit = subst IsWithinLimit (sym is.extent_is) (record { last = tt; total = tt });
   strong = short.strong;
   modified = short.modified;
 }
+
+-- ---- what the reader keeps of a head, also where the wire doesn't tell
+
+starts_framed : (told : Framing) (body : Body) → Starts told body → told ≡ framing_of body
+starts_framed told (body.Counted count) is = is
+starts_framed told body.ToEnd is = is
+starts_framed told (body.Chunked chunks) is = is.0
+
+framed_as : (wanted : Wanted) (head : ResponseHead) (told : Framing) (extent : Extent) (found : Found) (behind : List ℕ) → IsExtent wanted (fields_of head) told extent
+    → extent_of found.head ≡ extent → Starts told found.body → IsFramedAs wanted found.head (started wanted behind found) kind.Content
+framed_as Whole head told extent found behind is same starts =
+    (ap size_told (same ∙ is), ap (λ (e : Extent). e.total) (same ∙ is) ∙ ap told_total (starts_framed told found.body starts))
+framed_as (Part first last tag known) head told extent found behind is same starts = record {
+  count = part_size first is.to;
+  size_is = ap size_told same ∙ ap (option_map (part_size extent.first)) is.last_is ∙ ap (λ (n : ℕ). Some (part_size n is.to)) is.first_is;
+  some = omega arith;
+  within = omega (arith, is.asked.within, is.asked.names.reads.is_range.in_order);
+}
+
+pub content_framed : (wanted : Wanted) (ahead behind : List ℕ) (status start : ℕ) (told : Framing) (extent : Extent) (metadata : Metadata)
+    (result : Result Found HeadFault) → FindsContent wanted ahead start told extent metadata → IfOk result (IsContentHead status told extent ahead metadata)
+    → IfOk result (λ found. IsFramedAs wanted found.head (started wanted behind found) found.head.kind)
+content_framed wanted ahead behind status start told extent metadata (Err refusal) finds is = tt
+content_framed wanted ahead behind status start told extent metadata (Ok found) finds is =
+    subst (IsFramedAs wanted found.head (started wanted behind found)) (sym is.kind_is)
+    (framed_as wanted finds.head told extent found behind finds.extent_is is.extent_is is.starts)
+
+leads_framed : (wanted : Wanted) (told : Head) (reader : Reader) (location : List ℕ) → IsFramedAs wanted told reader (kind.Redirect location)
+leads_framed Whole told reader location = tt
+leads_framed (Part first last tag known) told reader location = tt
+
+pub redirect_framed : (wanted : Wanted) (status : ℕ) (location ahead behind : List ℕ) (metadata : Metadata) (result : Result Found HeadFault)
+    → IfOk result (IsRedirectHead status location ahead metadata)
+    → IfOk result (λ found. IsFramedAs wanted found.head (started wanted behind found) found.head.kind)
+redirect_framed wanted status location ahead behind metadata (Err refusal) is = tt
+redirect_framed wanted status location ahead behind metadata (Ok found) is =
+    subst (IsFramedAs wanted found.head (started wanted behind found)) (sym is.kind_is) (leads_framed wanted found.head (started wanted behind found) location)
 
 -- ---- answers
 
@@ -399,6 +474,32 @@ front_unkind wanted from cause.Cancel met = refl
 front_unkind wanted from cause.Shutdown met = refl
 front_unkind wanted from cause.Memory met = refl
 front_unkind wanted from cause.Crash met = refl
+
+-- it is a cause of a head
+pub front_own : (wanted : Wanted) (from : List ℕ) (broke : Cause) → FrontBroke wanted from broke → IsTrue (is_head_cause broke)
+front_own wanted from cause.HeadCut met = refl
+front_own wanted from cause.BadHead met = refl
+front_own wanted from (cause.Status status) met = refl
+front_own wanted from cause.Encoded met = refl
+front_own wanted from cause.BadFraming met = refl
+front_own wanted from (cause.RangeRefused status) met = refl
+front_own wanted from (cause.TooLarge total) met = refl
+front_own wanted from cause.NetFailed met = refl
+front_own wanted from cause.NetTimeout met = refl
+front_own wanted from (cause.File kind) met = absurd met
+front_own wanted from cause.NamesTaken met = absurd met
+front_own wanted from cause.BothStand met = absurd met
+front_own wanted from (cause.PartShort have known) met = absurd met
+front_own wanted from (cause.DigestDiffers have known) met = absurd met
+front_own wanted from cause.NetNoRoute met = absurd met
+front_own wanted from cause.NetRefused met = absurd met
+front_own wanted from cause.BadLocation met = absurd met
+front_own wanted from cause.TooManyRedirects met = absurd met
+front_own wanted from (cause.ContentShort have told) met = absurd met
+front_own wanted from cause.Cancel met = absurd met
+front_own wanted from cause.Shutdown met = absurd met
+front_own wanted from cause.Memory met = absurd met
+front_own wanted from cause.Crash met = absurd met
 
 pub refused_cause : {T : Type 0} (wanted : Wanted) (from : List ℕ) (broke : Cause) (before now : WireFault → ℕ) → FrontBroke wanted from broke → NoneFell before now
     → HasCause {T = T} head_kind before now (Err (fault.Broke broke))

@@ -6,3 +6,4 @@ pub mod HeadLemmas
 pub mod Outcomes
 pub mod PartLemmas
 pub mod Said
+pub mod ReadsLemmas

@@ -1,6 +1,7 @@
 -- Content that stands in the stream as it is, against the whole stream.
 use Rattle.std.proofs.Common.{◌≡◌, ℕ, ◌+◌, ◌<◌, ◌≤◌, List, [], ◌∷◌, ◌++◌, length, take, refl, sym, ap, ◌∙◌, subst, arith, Result, Ok, Err, IfOk, Some, append_assoc, length-append}
 use Rattle.std.proofs.lemmas.List.{append-nil, length-take-le}
+use Rattle.dm_edge.specs.Causes.{wire_cause}
 use Rattle.dm_edge.specs.Wire.{Told, stream_of}
 use Rattle.dm_edge.specs.declared.fault.WireFault.{WireFault}
 use Rattle.dm_edge.specs.declared.fault.WireFault.TheVariants as wire
@@ -15,7 +16,7 @@ use Rattle.dm_reply.specs.declared.got.Got.TheVariants as got
 use Rattle.dm_reply.specs.declared.body.Body.TheVariants as body
 use Rattle.dm_reply.specs.Ahead.{Grows, Stays}
 use Rattle.dm_reply.specs.Content.{HasFramed}
-use Rattle.dm_reply.specs.Steps.{Nexts, going, settled, FramedSays, EndSays, cause_of}
+use Rattle.dm_reply.specs.Steps.{Nexts, going, settled, FramedSays, EndSays}
 use Rattle.dm_reply.proofs.StreamLemmas.{content_more, given_more, front_grown, at_end}
 
 -- the bytes behind the head, where some of them came and some lay ahead
@@ -29,7 +30,7 @@ count_on content buffer n given count within =
     omega (arith, length-append content (take n buffer), length-take-le n buffer within)
 
 -- what a fault of the wire leaves of the content
-pub stopped : {asked : Wanted} {head : ResponseHead} {stream content : List ℕ} → IsFramedFront asked head stream content → (fault : WireFault) → FramedBroke asked head stream content (cause_of fault)
+pub stopped : {asked : Wanted} {head : ResponseHead} {stream content : List ℕ} → IsFramedFront asked head stream content → (fault : WireFault) → FramedBroke asked head stream content (wire_cause fault)
 stopped front wire.Failed = front
 stopped front wire.Timeout = front
 stopped front wire.NoMemory = front

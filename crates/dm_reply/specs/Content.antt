@@ -11,12 +11,13 @@ use Rattle.dm_edge.specs.declared.framing.Framing.TheVariants as framing
 use Rattle.dm_edge.specs.declared.wanted.Wanted.{Wanted}
 use Rattle.dm_edge.specs.declared.wanted.Wanted.TheVariants.{Whole, Part}
 use Rattle.dm_edge.specs.Part.{IsAskedPart, part_size}
-use Rattle.dm_edge.specs.Begins.{BeginsContent, BeginsRedirect, HeadBroke, most_content}
-use Rattle.dm_edge.specs.Reply.{IsFramedFront, IsWhole, ContentBroke}
+use Rattle.dm_edge.specs.Begins.{BeginsContent, BeginsRedirect, HeadBroke, told_total, most_content}
+use Rattle.dm_edge.specs.Reply.{IsFramedFront, IsWholeBehind, ContentBroke}
 use Rattle.dm_head.specs.declared.part.Extent.{Extent}
 use Rattle.dm_head.specs.Fit.{IsExtent, IsWithinLimit}
 use Rattle.dm_edge.specs.Fields.{NameAndValue, values_of, fields_of}
-use Rattle.dm_edge.specs.Metadata.{most_tag, most_modified, modified_of, IsStrongTag, IsOnlyValue, TakesRanges}
+use Rattle.dm_edge.specs.Metadata.{most_tag, IsStrongTag, IsOnlyValue, TakesRanges}
+use Rattle.dm_edge.specs.Metadata.{most_modified, modified_of}
 use Rattle.dm_reply.specs.declared.got.Got.{Got}
 use Rattle.dm_reply.specs.declared.got.Got.TheVariants as got
 use Rattle.dm_reply.specs.declared.head.Head.{Head}
@@ -53,6 +54,10 @@ abbrev pub framing_of : Body → Framing
 framing_of (body.Counted wanted) = framing.Counted wanted
 framing_of body.ToEnd = framing.ToEnd
 framing_of (body.Chunked chunks) = framing.Chunked
+
+-- how many bytes the framing tells, where it tells it
+abbrev pub counted_of : Body → Option ℕ
+counted_of body = told_total (framing_of body)
 
 -- a decoder was fed these bytes but for those ahead, and told this content
 pub record HasChunks (bytes content ahead : List ℕ) (chunks : Chunks) : Type 0 where
@@ -91,16 +96,14 @@ abbrev pub IsSized : Wanted → ResponseHead → Option ℕ → List ℕ → Typ
 IsSized Whole head size content = size ≡ None
 IsSized (Part first last tag known) head size content = HasPartOf first last tag known head size content
 
--- From what a wire gave, the reader took a head with the wanted content and gave this content. It holds the rest.
-pub record HasRead (wanted : Wanted) (given : List ℕ) (reader : Reader) (content : List ℕ) : Type 0 where
-  pub head : ResponseHead
+-- From what a wire gave, the reader took this head with the wanted content and gave this content. It holds the rest.
+pub record HasRead (wanted : Wanted) (head : ResponseHead) (given : List ℕ) (reader : Reader) (content : List ℕ) : Type 0 where
   pub framed : HasFramed wanted head given reader.reading content
   pub sized : IsSized wanted head reader.size content
 
 -- the head of content that was read, or the address that the stream leads to
 abbrev pub KindSays : Wanted → Told → Reader → ResponseHead → Kind → Type 0
-KindSays wanted now reader head kind.Content =
-    ((bytes : List ℕ) × BeginsContent wanted now.given head (framing_of reader.reading.body) bytes) × HasRead wanted now.given reader []
+KindSays wanted now reader head kind.Content = HasRead wanted head now.given reader []
 KindSays wanted now reader head (kind.Redirect location) = BeginsRedirect wanted (stream_of now) head location
 
 -- which bytes of the whole content come, as an answer of `head` says
@@ -140,11 +143,13 @@ abbrev pub EndsBy : ℕ → Option ℕ → Type 0
 EndsBy last None = ⊥
 EndsBy last (Some to) = to ≤ last
 
--- The places of each head that is answered: of a whole content none but the first, of a part those that were asked or some before the asked end.
+-- The places of each head that is answered: of a whole content none but the first, of a part those that were asked or some before the asked end. Where
+-- a part is wanted no head leads on.
 abbrev pub PlacesSay : Wanted → Head → Kind → Type 0
-PlacesSay wanted told (kind.Redirect location) = extent_of told ≡ no_extent
 PlacesSay Whole told kind.Content = (told.first ≡ 0) × (told.last ≡ None)
+PlacesSay Whole told (kind.Redirect location) = extent_of told ≡ no_extent
 PlacesSay (Part first last tag known) told kind.Content = (told.first ≡ first) × EndsBy last told.last
+PlacesSay (Part first last tag known) told (kind.Redirect location) = ⊥
 
 -- What each head that is answered has, also where the wire doesn't tell: its places, and lengths within their limits.
 pub record IsPlainHead (wanted : Wanted) (told : Head) : Type 0 where
@@ -153,16 +158,30 @@ pub record IsPlainHead (wanted : Wanted) (told : Head) : Type 0 where
   pub strong : IfSome told.strong (λ tag. length tag ≤ most_tag)
   pub modified : length told.modified ≤ most_modified
 
+-- The part's size is kept: it has a byte, and none behind the asked end.
+pub record IsSizedPart (first last : ℕ) (size : Option ℕ) : Type 0 where
+  pub count : ℕ
+  pub size_is : size ≡ Some count
+  pub some : 0 < count
+  pub within : first + count ≤ last + 1
+
+-- What a reader keeps of a head with content, also where the wire doesn't tell: of a whole content the told number of bytes, of a part its size.
+abbrev pub IsFramedAs : Wanted → Head → Reader → Kind → Type 0
+IsFramedAs Whole told reader kind.Content = (reader.size ≡ None) × (told.total ≡ counted_of reader.reading.body)
+IsFramedAs Whole told reader (kind.Redirect location) = Unit {0}
+IsFramedAs (Part first last tag known) told reader kind.Content = IsSizedPart first last reader.size
+IsFramedAs (Part first last tag known) told reader (kind.Redirect location) = Unit {0}
+
 -- what a refusal of `head` says of the whole stream. Want of memory says nothing
 abbrev pub HeadBreaks : Wanted → List ℕ → HeadFault → Type 0
 HeadBreaks wanted stream (fault.Broke cause) = HeadBroke wanted stream cause
 HeadBreaks wanted stream fault.NoMemory = Unit {0}
 
 -- What an answer of `content` says, where this content was given before. The buffer is the one at the return.
-abbrev pub ContentSays : Wanted → Told → Reader → Result Got Cause → List ℕ → List ℕ → Type 0
-ContentSays wanted now new (Ok (got.Bytes n)) buffer content = HasRead wanted now.given new (content ++ take n buffer)
-ContentSays wanted now new (Ok got.End) buffer content = IsWhole wanted (stream_of now) content × HasRead wanted now.given new content
-ContentSays wanted now new (Err cause) buffer content = ContentBroke wanted (stream_of now) content cause × (new.reading.broke ≡ Some cause)
+abbrev pub ContentSays : Wanted → ResponseHead → Told → Reader → Result Got Cause → List ℕ → List ℕ → Type 0
+ContentSays wanted head now new (Ok (got.Bytes n)) buffer content = HasRead wanted head now.given new (content ++ take n buffer)
+ContentSays wanted head now new (Ok got.End) buffer content = IsWholeBehind wanted head (stream_of now) content × HasRead wanted head now.given new content
+ContentSays wanted head now new (Err cause) buffer content = ContentBroke wanted (stream_of now) content cause × (new.reading.broke ≡ Some cause)
 
 -- Each answer with bytes gives at least one, and the content keeps its limit.
 abbrev pub Advances : Reading → Reading → Result Got Cause → ℕ → Type 0
@@ -170,3 +189,14 @@ Advances old new (Ok (got.Bytes n)) room =
     (0 < n) × (n ≤ room) × (new.given ≡ old.given + n) × (new.given ≤ most_content) × (new.broke ≡ None)
 Advances old new (Ok got.End) room = (new.given ≡ old.given) × (new.broke ≡ None)
 Advances old new (Err cause) room = new.given ≡ old.given
+
+-- the first of the two that is there
+abbrev pub first_some : Option ℕ → Option ℕ → Option ℕ
+first_some None other = other
+first_some (Some n) other = Some n
+
+-- At the end as many bytes were given as the part has, or as the framing tells of a whole content.
+abbrev pub EndsAll : Reader → Result Got Cause → Type 0
+EndsAll reader (Ok (got.Bytes n)) = Unit {0}
+EndsAll reader (Ok got.End) = IfSome (first_some reader.size (counted_of reader.reading.body)) (λ n. reader.reading.given ≡ n)
+EndsAll reader (Err cause) = Unit {0}

@@ -1,5 +1,5 @@
 -- A head that was found whole, and what it makes of the reader.
-use Rattle.std.specs.Prelude.{◌≡◌, ℕ, ◌≤◌, ◌⊎◌, IfSome, List, [], ◌++◌, length, None, Result, Ok, Err}
+use Rattle.std.specs.Prelude.{◌≡◌, ℕ, ◌≤◌, ◌⊎◌, IfSome, List, [], ◌++◌, length, Result, Ok, Err}
 use Rattle.std.specs.Option.{option_map}
 use Rattle.httparse.specs.Grammar.{ResponseHead}
 use Rattle.httparse.specs.Spans.{IsWithin, span_bytes}
@@ -23,7 +23,8 @@ use Rattle.dm_reply.specs.declared.head.HeadFault.{HeadFault}
 use Rattle.dm_reply.specs.declared.head.HeadFault.TheVariants as fault
 use Rattle.dm_reply.specs.declared.head.Kind.TheVariants as kind
 use Rattle.dm_reply.specs.declared.found.Found.{Found}
-use Rattle.dm_reply.specs.Ahead.{Grows}
+use Rattle.dm_reply.specs.declared.receiving.Came.{Came}
+use Rattle.dm_reply.specs.Ahead.{Continues}
 
 -- a reader with this framing stands at the content's first byte
 abbrev pub Starts : Framing → Body → Type 0
@@ -75,19 +76,14 @@ pub record HasPassed (given ahead : List ℕ) (count : ℕ) : Type 0 where
   pub passes : Passes given passed ahead
   pub size : length passed ≡ count
 
--- more came behind an open head
-pub record OpensMore (before now : Told) (old new : List ℕ) : Type 0 where
-  pub count : ℕ
-  pub grows : Grows before now old new count
-
 -- nothing more came, and the open head ends so
 pub record OpenBroke (wanted : Wanted) (before now : Told) (ahead : List ℕ) (broke : Cause) : Type 0 where
   pub given : now.given ≡ before.given
   pub met : IsOfWire broke ⊎ FrontBroke wanted (ahead ++ now.left) broke
 
 -- what a receive behind an open head brings
-abbrev pub MoreSays : Wanted → Told → Told → List ℕ → List ℕ → Result (Unit {0}) HeadFault → Type 0
-MoreSays wanted before now old new (Ok done) = OpensMore before now old new
+abbrev pub MoreSays : Wanted → Told → Told → List ℕ → List ℕ → Result Came HeadFault → Type 0
+MoreSays wanted before now old new (Ok next) = Continues before now old new
 MoreSays wanted before now old new (Err (fault.Broke broke)) = OpenBroke wanted before now old broke
 MoreSays wanted before now old new (Err fault.NoMemory) = Unit {0}
 

@@ -1,11 +1,13 @@
 pub mod Ahead
 pub mod Buffer
-pub mod Collected
+pub mod Causes
 pub mod Content
 pub mod Faults
 pub mod Reader
 pub mod Steps
 pub mod Found
 pub mod Laws
+pub mod Lines
 pub mod Part
+pub mod Reads
 pub mod Unfinished

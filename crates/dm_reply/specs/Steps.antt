@@ -1,5 +1,6 @@
 -- One step of the content: what comes next, and what it makes of a reader.
-use Rattle.std.specs.Prelude.{◌≡◌, ℕ, ◌+◌, ◌<◌, ◌≤◌, List, [], ◌++◌, take, min, Option, Some, None, Result, Ok, Err}
+use Rattle.std.specs.Prelude.{◌≡◌, ℕ, ◌+◌, ◌<◌, ◌≤◌, List, [], ◌++◌, take, min, Option, Some, None, IfSome, Result, Ok, Err}
+use Rattle.dm_types.specs.Faults.{Rose}
 use Rattle.dm_policy.specs.declared.cause.Cause.{Cause}
 use Rattle.dm_policy.specs.declared.cause.Cause.TheVariants as cause
 use Rattle.dm_edge.specs.declared.fault.WireFault.{WireFault}
@@ -15,15 +16,9 @@ use Rattle.dm_reply.specs.declared.head.HeadFault.{HeadFault}
 use Rattle.dm_reply.specs.declared.head.HeadFault.TheVariants as head_fault
 use Rattle.dm_reply.specs.declared.got.Got.{Got}
 use Rattle.dm_reply.specs.declared.got.Got.TheVariants as got
-use Rattle.dm_reply.specs.Content.{Reading, Reader, HasFramed}
+use Rattle.dm_reply.specs.Content.{Reading, Reader, HasFramed, counted_of}
 
--- the cause that a fault of the wire is
-abbrev pub cause_of : WireFault → Cause
-cause_of wire.Failed = cause.NetFailed
-cause_of wire.Timeout = cause.NetTimeout
-cause_of wire.NoMemory = cause.Memory
-
--- the same, while the head is read
+-- what a fault of the wire is while the head is read
 abbrev pub head_fault_of : WireFault → HeadFault
 head_fault_of wire.Failed = head_fault.Broke cause.NetFailed
 head_fault_of wire.Timeout = head_fault.Broke cause.NetTimeout
@@ -51,6 +46,16 @@ abbrev pub IsWithin : ℕ → ℕ → Result Got Cause → Type 0
 IsWithin limit given (Ok (got.Bytes n)) = given + n ≤ limit
 IsWithin limit given (Ok got.End) = Unit {0}
 IsWithin limit given (Err broke) = Unit {0}
+
+-- where the framing tells a number of bytes, the end comes behind so many
+abbrev pub EndsCounted : Reading → Result Got Cause → Type 0
+EndsCounted reading (Ok (got.Bytes n)) = Unit {0}
+EndsCounted reading (Ok got.End) = IfSome (counted_of reading.body) (λ n. reading.given ≡ n)
+EndsCounted reading (Err broke) = Unit {0}
+
+-- want of memory is a cause only where the wire wanted it
+abbrev pub ShowsWant : ℕ → ℕ → Cause → Type 0
+ShowsWant before now broke = broke ≡ cause.Memory → Rose before now
 
 -- bytes are some, the caller's room is kept to, and so is this limit
 abbrev pub KeepsTo : ℕ → ℕ → ℕ → Result Got Cause → Type 0
@@ -88,6 +93,7 @@ pub record IsSameReader (old new : Reader) : Type 0 where
   pub given : new.reading.given ≡ old.reading.given
   pub unbroken : new.reading.broke ≡ None
   pub most : most_of new.reading.body ≡ most_of old.reading.body
+  pub counted : counted_of new.reading.body ≡ counted_of old.reading.body
 
 -- no more than a part has, where there is one
 abbrev pub least_of : Option ℕ → ℕ → ℕ

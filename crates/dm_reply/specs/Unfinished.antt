@@ -5,12 +5,11 @@ use Rattle.dm_policy.specs.declared.cause.Cause.{Cause}
 use Rattle.dm_policy.specs.declared.cause.Cause.TheVariants as cause
 use Rattle.dm_edge.specs.declared.framing.Framing.{Framing}
 use Rattle.dm_edge.specs.declared.framing.Framing.TheVariants as framing
-use Rattle.dm_edge.specs.Head.{ComesTo}
+use Rattle.dm_edge.specs.Head.{ComesTo, IsHeadCut}
 use Rattle.dm_edge.specs.declared.wanted.Wanted.{Wanted}
 use Rattle.dm_edge.specs.declared.wanted.Wanted.TheVariants.{Whole, Part}
 use Rattle.dm_edge.specs.Begins.{BeginsContent, IsOfWire}
 use Rattle.dm_edge.specs.Reply.{BringsFramed, HasSize}
-use Rattle.dm_head.specs.Look.{IsOpen}
 use Rattle.dm_reply.specs.declared.got.Got.{Got}
 use Rattle.dm_reply.specs.declared.head.HeadFault.{HeadFault}
 use Rattle.dm_reply.specs.declared.head.HeadFault.TheVariants as fault
@@ -41,29 +40,24 @@ abbrev pub StaysOpen : Wanted → ResponseHead → List ℕ → List ℕ → Typ
 StaysOpen Whole head given content = IsFramedUnfinished Whole head given content
 StaysOpen (Part first last tag known) head given content = IsUnfinishedPart (Part first last tag known) head given content
 
--- The content so far is all that was brought, and isn't whole.
-pub record IsUnfinished (wanted : Wanted) (given content : List ℕ) : Type 0 where
-  pub head : ResponseHead
-  pub open_content : StaysOpen wanted head given content
-
 -- after a fault of the wire, or where it had no memory, this holds
 abbrev pub LeavesBy : Type 0 → Result Got Cause → Type 0
 LeavesBy Unfinished (Ok got) = Unit {0}
 LeavesBy Unfinished (Err broke) = IsOfWire broke ⊎ (broke ≡ cause.Memory) → Unfinished
 
--- After a fault of the wire, or where it had no memory, the content so far is unfinished.
-abbrev pub LeavesContent : Wanted → List ℕ → List ℕ → Result Got Cause → Type 0
-LeavesContent wanted given content result = LeavesBy (IsUnfinished wanted given content) result
+-- After a fault of the wire, or where it had no memory, the content so far is all that was brought, and isn't whole.
+abbrev pub LeavesContent : Wanted → ResponseHead → List ℕ → List ℕ → Result Got Cause → Type 0
+LeavesContent wanted head given content result = LeavesBy (StaysOpen wanted head given content) result
 
 -- the same, of the framed content
 abbrev pub LeavesFramed : Wanted → ResponseHead → List ℕ → List ℕ → Result Got Cause → Type 0
 LeavesFramed wanted head given content result = LeavesBy (IsFramedUnfinished wanted head given content) result
 
--- Behind the interim heads no whole head was given, and one may come.
+-- Behind the interim heads no whole head was given, and one may come: a stream that ended there would be cut.
 pub record IsHeadOpen (given : List ℕ) : Type 0 where
   pub from : List ℕ
   pub comes : ComesTo given from
-  pub open_head : IsOpen from
+  pub open_head : IsHeadCut from
 
 -- after a fault of the wire the head is open
 abbrev pub LeavesHead : List ℕ → HeadFault → Type 0

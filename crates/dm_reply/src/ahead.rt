@@ -3,7 +3,9 @@ ghost use Rattle.std.specs.Prelude.{◌≡◌, ◌<◌, ◌≤◌, ◌+◌, [], 
 ghost use Rattle.dm_types.specs.Faults.{HasCause};
 ghost use Rattle.dm_edge.specs.Faults.{wire_kind};
 ghost use Rattle.dm_edge.specs.Head.{most_head};
+ghost use Rattle.dm_edge.specs.Wire.{WantsBy};
 ghost use Rattle.dm_reply.specs.Ahead.{Grows, Stays};
+ghost use Rattle.dm_reply.specs.Reads.{OnlyReads};
 
 use dm_edge::{Wire, WireFault};
 use dm_types::NoMemory;
@@ -51,6 +53,14 @@ impl Ahead {
         &self.buffer[self.start..self.end]
     }
 
+    /// The bytes behind the first ones.
+    pub fn behind(&self, count: usize) -> &[u8]
+        requires { count ≤ length self.now }
+        ensures { result.now ≡ drop count self.now }
+    {
+        &self.bytes()[count..]
+    }
+
     pub fn is_empty(&self) -> bool
         ensures empty { result ≡ true → self.now ≡ [] }
         ensures some { result ≡ false → 0 < length self.now }
@@ -96,9 +106,9 @@ impl Ahead {
         requires { length self.old < most_head }
         ensures count { MatchResult result (λ n. (length self.new ≡ length self.old + n) × (length self.new ≤ most_head)) (λ _. self.new ≡ self.old) }
         ensures told { W.tells → MatchResult result (Grows (W.told wire.old) (W.told wire.new) self.old self.new) (λ _. Stays (W.told wire.old) (W.told wire.new)) }
-        ensures sent { W.tells → (W.told wire.new).sent ≡ (W.told wire.old).sent }
-        ensures stays { (W.purpose wire.new ≡ W.purpose wire.old) × (W.origin wire.new ≡ W.origin wire.old) }
+        ensures reads { OnlyReads W.tells W.told W.purpose W.origin W.wants wire.old wire.new }
         ensures cause { HasCause wire_kind (W.faults wire.old) (W.faults wire.new) result }
+        ensures wants { WantsBy (W.wants wire.old) (W.wants wire.new) result }
     {
         self.end = move_down(&mut self.buffer, self.start, self.end);
         self.start = 0;
@@ -111,9 +121,9 @@ impl Ahead {
     pub fn refill<W: Wire>(&mut self, wire: &mut W) -> Result<usize, WireFault>
         ensures count { IfOk result (λ n. length self.new ≡ n) }
         ensures told { W.tells → MatchResult result (Grows (W.told wire.old) (W.told wire.new) [] self.new) (λ _. Stays (W.told wire.old) (W.told wire.new)) }
-        ensures sent { W.tells → (W.told wire.new).sent ≡ (W.told wire.old).sent }
-        ensures stays { (W.purpose wire.new ≡ W.purpose wire.old) × (W.origin wire.new ≡ W.origin wire.old) }
+        ensures reads { OnlyReads W.tells W.told W.purpose W.origin W.wants wire.old wire.new }
         ensures cause { HasCause wire_kind (W.faults wire.old) (W.faults wire.new) result }
+        ensures wants { WantsBy (W.wants wire.old) (W.wants wire.new) result }
     {
         self.clear();
         self.receive(wire)
@@ -126,13 +136,15 @@ impl Ahead {
     }
 }
 
-/// Moves this range of the buffer to its front, and says how many bytes that is.
+/// Moves this range of the buffer to its front, where it doesn't stand there, and says how many bytes that is.
 fn move_down(buffer: &mut [u8], start: usize, end: usize) -> usize
     requires { (start ≤ end) × (end ≤ length buffer.old) }
     ensures size { result + start ≡ end }
     ensures same { take result buffer.new ≡ slice_range buffer.old start end }
 {
-    buffer.copy_within(start..end, 0);
+    if start > 0 {
+        buffer.copy_within(start..end, 0);
+    }
     end - start
 }
 
@@ -143,9 +155,9 @@ fn receive_behind<W: Wire>(wire: &mut W, buffer: &mut [u8], end: usize) -> Resul
     ensures before { IfErr result (λ _. take end buffer.new ≡ take end buffer.old) }
     ensures told { W.tells → MatchResult result (λ n. Grows (W.told wire.old) (W.told wire.new) (take end buffer.old) (take (end + n) buffer.new) n) (λ _. Stays (W.told wire.old) (W.told wire.new)) }
     ensures size { IfOk result (λ n. length (take (end + n) buffer.new) ≡ end + n) }
-    ensures sent { W.tells → (W.told wire.new).sent ≡ (W.told wire.old).sent }
-    ensures stays { (W.purpose wire.new ≡ W.purpose wire.old) × (W.origin wire.new ≡ W.origin wire.old) }
+    ensures reads { OnlyReads W.tells W.told W.purpose W.origin W.wants wire.old wire.new }
     ensures cause { HasCause wire_kind (W.faults wire.old) (W.faults wire.new) result }
+    ensures wants { WantsBy (W.wants wire.old) (W.wants wire.new) result }
 {
     wire.receive(&mut buffer[end..])
 }

@@ -1,20 +1,22 @@
 //! Content that comes in chunks (RFC 9112, section 7.1).
-ghost use Rattle.std.specs.Prelude.{◌≡◌, ◌<◌, ◌≤◌, ◌-◌, ℕ, List, length, min, max};
+ghost use Rattle.std.specs.Prelude.{◌≡◌, ◌<◌, ◌≤◌, ◌-◌, ℕ, List, length, min, max, IsTrue, IfErr};
 ghost use Rattle.httparse.specs.Grammar.{ResponseHead};
 ghost use Rattle.dm_types.specs.Faults.{HasCause};
 ghost use Rattle.dm_edge.specs.declared.wanted.Wanted.{Wanted};
 ghost use Rattle.dm_edge.specs.Begins.{most_content};
 ghost use Rattle.dm_reply.specs.Content.{HasFramed};
+ghost use Rattle.dm_edge.specs.Causes.{is_content_cause};
 ghost use Rattle.dm_reply.specs.Faults.{cause_kind};
+ghost use Rattle.dm_reply.specs.Reads.{OnlyReads};
 ghost use Rattle.dm_reply.specs.Unfinished.{LeavesFramed};
-ghost use Rattle.dm_reply.specs.Steps.{going, settled, KeepsTo, FramedSays};
+ghost use Rattle.dm_reply.specs.Steps.{going, settled, KeepsTo, ShowsWant, FramedSays};
 ghost use Rattle.dm_reply.specs.declared.body.Body.TheVariants as body;
 
 use crate::Got;
 use crate::ahead::Ahead;
-use crate::plain::{MOST_CONTENT, cause_of, least};
+use crate::plain::{MOST_CONTENT, least};
 use dm_chunk::{Chunks, Step};
-use dm_edge::Wire;
+use dm_edge::{Wire, wire_cause};
 use dm_policy::Cause;
 
 /// The next data of the chunks. Behind 2^40 bytes of it the decoder is still asked for one, and none is to come. The
@@ -33,9 +35,10 @@ pub fn give_chunked<W: Wire>(
         → FramedSays wanted head (W.told wire.new) (settled (going ahead.new (body.Chunked chunks.new) given) result) result buf.new content }
     ensures unfinished { W.tells → (wanted : Wanted) (head : ResponseHead) (content : List ℕ) → HasFramed wanted head (W.told wire.old).given (going ahead.old (body.Chunked chunks.old) given) content
         → LeavesFramed wanted head (W.told wire.new).given content result }
-    ensures sent { W.tells → (W.told wire.new).sent ≡ (W.told wire.old).sent }
-    ensures stays { (W.purpose wire.new ≡ W.purpose wire.old) × (W.origin wire.new ≡ W.origin wire.old) }
+    ensures own { IfErr result (λ broke. IsTrue (is_content_cause broke)) }
+    ensures reads { OnlyReads W.tells W.told W.purpose W.origin W.wants wire.old wire.new }
     ensures cause { HasCause cause_kind (W.faults wire.old) (W.faults wire.new) result }
+    ensures memory { IfErr result (ShowsWant (W.wants wire.old) (W.wants wire.new)) }
 {
     let room = room_for(given, buf.len());
     loop {
@@ -60,7 +63,7 @@ pub fn give_chunked<W: Wire>(
                     });
                 }
                 Ok(_) => {}
-                Err(fault) => return Err(cause_of(fault)),
+                Err(fault) => return Err(wire_cause(fault)),
             },
         }
     }

@@ -4,12 +4,11 @@
 mod ahead;
 mod body;
 mod chunked;
-#[cfg(test)]
-mod collecting;
 mod found;
 mod got;
 mod head;
 mod laws;
+mod lines;
 mod part;
 mod plain;
 mod reader;
@@ -20,8 +19,3 @@ pub use got::Got;
 pub use head::{Head, HeadFault, Kind};
 pub use laws::one_outcome;
 pub use reader::ReplyReader;
-
-#[cfg(test)]
-mod part_tests;
-#[cfg(test)]
-mod tests;

@@ -1,21 +1,24 @@
 //! Content that stands in the stream as it is: by a count, or up to the connection's end.
-ghost use Rattle.std.specs.Prelude.{◌≡◌, ◌<◌, ◌≤◌, ℕ, List, [], length, min, IfOk, IfErr, MatchResult};
+ghost use Rattle.std.specs.Prelude.{◌≡◌, ◌<◌, ◌≤◌, ℕ, List, [], length, min, IsTrue, IfOk, IfErr, MatchResult};
 ghost use Rattle.httparse.specs.Grammar.{ResponseHead};
 ghost use Rattle.dm_types.specs.Faults.{HasCause};
 ghost use Rattle.dm_edge.specs.declared.wanted.Wanted.{Wanted};
+ghost use Rattle.dm_edge.specs.Causes.{is_content_cause};
 ghost use Rattle.dm_edge.specs.Faults.{wire_kind};
+ghost use Rattle.dm_edge.specs.Wire.{WantsBy};
 ghost use Rattle.dm_edge.specs.Begins.{most_content};
 ghost use Rattle.dm_reply.specs.Ahead.{Stays};
 ghost use Rattle.dm_reply.specs.Content.{HasFramed};
 ghost use Rattle.dm_reply.specs.Faults.{cause_kind};
+ghost use Rattle.dm_reply.specs.Reads.{OnlyReads};
 ghost use Rattle.dm_reply.specs.Unfinished.{LeavesFramed};
-ghost use Rattle.dm_reply.specs.Steps.{cause_of, Nexts, going, settled, KeepsTo, FramedSays, EndSays};
+ghost use Rattle.dm_reply.specs.Steps.{Nexts, ShowsWant, going, settled, KeepsTo, FramedSays, EndSays};
 ghost use Rattle.dm_reply.specs.declared.body.Body.TheVariants as body;
 ghost use Rattle.dm_reply.specs.declared.got.Got.TheVariants as got;
 
 use crate::Got;
 use crate::ahead::Ahead;
-use dm_edge::{Wire, WireFault};
+use dm_edge::{Wire, WireFault, wire_cause};
 use dm_policy::Cause;
 
 /// The most bytes that a content may have.
@@ -32,13 +35,15 @@ pub fn give_counted<W: Wire>(
     requires room { 0 < length buf.old }
     requires within { (given ≤ count) × (count ≤ most_content) }
     ensures keeps { KeepsTo count given (length buf.old) result }
+    ensures all { IfOk result (λ answer. answer ≡ got.End → given ≡ count) }
     ensures says { W.tells → (wanted : Wanted) (head : ResponseHead) (content : List ℕ) → HasFramed wanted head (W.told wire.old).given (going ahead.old (body.Counted count) given) content
         → FramedSays wanted head (W.told wire.new) (settled (going ahead.new (body.Counted count) given) result) result buf.new content }
     ensures unfinished { W.tells → (wanted : Wanted) (head : ResponseHead) (content : List ℕ) → HasFramed wanted head (W.told wire.old).given (going ahead.old (body.Counted count) given) content
         → LeavesFramed wanted head (W.told wire.new).given content result }
-    ensures sent { W.tells → (W.told wire.new).sent ≡ (W.told wire.old).sent }
-    ensures stays { (W.purpose wire.new ≡ W.purpose wire.old) × (W.origin wire.new ≡ W.origin wire.old) }
+    ensures own { IfErr result (λ broke. IsTrue (is_content_cause broke)) }
+    ensures reads { OnlyReads W.tells W.told W.purpose W.origin W.wants wire.old wire.new }
     ensures cause { HasCause cause_kind (W.faults wire.old) (W.faults wire.new) result }
+    ensures memory { IfErr result (ShowsWant (W.wants wire.old) (W.wants wire.new)) }
 {
     if given == count {
         return Ok(Got::End);
@@ -49,7 +54,7 @@ pub fn give_counted<W: Wire>(
             wanted: Some(count),
         }),
         Ok(size) => Ok(Got::Bytes(size)),
-        Err(fault) => Err(cause_of(fault)),
+        Err(fault) => Err(wire_cause(fault)),
     }
 }
 
@@ -67,9 +72,10 @@ pub fn give_to_end<W: Wire>(
         → FramedSays wanted head (W.told wire.new) (settled (going ahead.new body.ToEnd given) result) result buf.new content }
     ensures unfinished { W.tells → (wanted : Wanted) (head : ResponseHead) (content : List ℕ) → HasFramed wanted head (W.told wire.old).given (going ahead.old body.ToEnd given) content
         → LeavesFramed wanted head (W.told wire.new).given content result }
-    ensures sent { W.tells → (W.told wire.new).sent ≡ (W.told wire.old).sent }
-    ensures stays { (W.purpose wire.new ≡ W.purpose wire.old) × (W.origin wire.new ≡ W.origin wire.old) }
+    ensures own { IfErr result (λ broke. IsTrue (is_content_cause broke)) }
+    ensures reads { OnlyReads W.tells W.told W.purpose W.origin W.wants wire.old wire.new }
     ensures cause { HasCause cause_kind (W.faults wire.old) (W.faults wire.new) result }
+    ensures memory { IfErr result (ShowsWant (W.wants wire.old) (W.wants wire.new)) }
 {
     if given == MOST_CONTENT {
         return end_full(ahead, wire);
@@ -77,7 +83,7 @@ pub fn give_to_end<W: Wire>(
     match next(ahead, least(MOST_CONTENT - given, buf.len()), wire, buf) {
         Ok(0) => Ok(Got::End),
         Ok(count) => Ok(Got::Bytes(count)),
-        Err(fault) => Err(cause_of(fault)),
+        Err(fault) => Err(wire_cause(fault)),
     }
 }
 
@@ -88,9 +94,10 @@ fn end_full<W: Wire>(ahead: &mut Ahead, wire: &mut W) -> Result<Got, Cause>
         → EndSays wanted head (W.told wire.new) (going ahead.new body.ToEnd most_content) result content }
     ensures unfinished { W.tells → (wanted : Wanted) (head : ResponseHead) (content : List ℕ) → HasFramed wanted head (W.told wire.old).given (going ahead.old body.ToEnd most_content) content
         → LeavesFramed wanted head (W.told wire.new).given content result }
-    ensures sent { W.tells → (W.told wire.new).sent ≡ (W.told wire.old).sent }
-    ensures stays { (W.purpose wire.new ≡ W.purpose wire.old) × (W.origin wire.new ≡ W.origin wire.old) }
+    ensures own { IfErr result (λ broke. IsTrue (is_content_cause broke)) }
+    ensures reads { OnlyReads W.tells W.told W.purpose W.origin W.wants wire.old wire.new }
     ensures cause { HasCause cause_kind (W.faults wire.old) (W.faults wire.new) result }
+    ensures memory { IfErr result (ShowsWant (W.wants wire.old) (W.wants wire.new)) }
 {
     if !ahead.is_empty() {
         return Err(Cause::TooLarge(MOST_CONTENT + 1));
@@ -98,7 +105,7 @@ fn end_full<W: Wire>(ahead: &mut Ahead, wire: &mut W) -> Result<Got, Cause>
     match ahead.receive(wire) {
         Ok(0) => Ok(Got::End),
         Ok(_) => Err(Cause::TooLarge(MOST_CONTENT + 1)),
-        Err(fault) => Err(cause_of(fault)),
+        Err(fault) => Err(wire_cause(fault)),
     }
 }
 
@@ -113,9 +120,9 @@ pub fn next<W: Wire>(
     ensures within { IfOk result (λ n. n ≤ room) }
     ensures told { W.tells → MatchResult result (Nexts (W.told wire.old) (W.told wire.new) ahead.old ahead.new buf.new) (λ _. Stays (W.told wire.old) (W.told wire.new)) }
     ensures in_place { IfErr result (λ _. ahead.old ≡ []) }
-    ensures sent { W.tells → (W.told wire.new).sent ≡ (W.told wire.old).sent }
-    ensures stays { (W.purpose wire.new ≡ W.purpose wire.old) × (W.origin wire.new ≡ W.origin wire.old) }
+    ensures reads { OnlyReads W.tells W.told W.purpose W.origin W.wants wire.old wire.new }
     ensures cause { HasCause wire_kind (W.faults wire.old) (W.faults wire.new) result }
+    ensures wants { WantsBy (W.wants wire.old) (W.wants wire.new) result }
 {
     if ahead.is_empty() {
         wire.receive(&mut buf[..room])
@@ -132,16 +139,5 @@ pub fn least(lacking: u64, room: usize) -> usize
         lacking as usize
     } else {
         room
-    }
-}
-
-/// What a fault of the wire is to a reader.
-pub fn cause_of(fault: WireFault) -> Cause
-    ensures { result ≡ cause_of fault }
-{
-    match fault {
-        WireFault::Failed => Cause::NetFailed,
-        WireFault::Timeout => Cause::NetTimeout,
-        WireFault::NoMemory => Cause::Memory,
     }
 }

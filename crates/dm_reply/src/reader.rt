@@ -1,13 +1,16 @@
-ghost use Rattle.std.specs.Prelude.{◌≡◌, ◌<◌, ◌≤◌, ◌+◌, ℕ, List, [], length, take, drop, false, Some, None, IfOk, IfErr, IfSome, Result, Err};
+ghost use Rattle.std.specs.Prelude.{◌≡◌, ◌<◌, ◌≤◌, ◌+◌, ℕ, List, [], length, take, drop, false, Some, None, IsTrue, IfOk, IfErr, IfSome, Result, Err};
 ghost use Rattle.dm_types.specs.Faults.{HasCause, NoneFell};
 ghost use Rattle.httparse.specs.Grammar.{ResponseHead};
 ghost use Rattle.dm_edge.specs.declared.wanted.Wanted.{Wanted as Asked};
 ghost use Rattle.dm_edge.specs.Wire.{stream_of};
 ghost use Rattle.dm_edge.specs.Begins.{most_content};
-ghost use Rattle.dm_reply.specs.Content.{unread, HasFramed, HasRead, HeadSays, HeadBreaks, IsPlainHead, ContentSays, Advances, extent_of, size_told};
+ghost use Rattle.dm_reply.specs.Content.{unread, HasFramed, HasRead, HeadSays, HeadBreaks, IsPlainHead, IsFramedAs, ContentSays, Advances, EndsAll, counted_of, extent_of, size_told};
 ghost use Rattle.dm_reply.specs.Unfinished.{LeavesContent, LeavesFramed, LeavesHead};
-ghost use Rattle.dm_reply.specs.Steps.{settled, settled_reader, least_of, FramedSays, IsSameReader, IsWithin, KeepsTo, most_of};
+ghost use Rattle.dm_reply.specs.Steps.{settled, settled_reader, least_of, FramedSays, IsSameReader, IsWithin, KeepsTo, EndsCounted, ShowsWant, most_of};
+ghost use Rattle.dm_edge.specs.Causes.{is_content_cause};
+ghost use Rattle.dm_reply.specs.Causes.{IsHeadFault};
 ghost use Rattle.dm_reply.specs.Faults.{cause_kind, head_kind};
+ghost use Rattle.dm_reply.specs.Reads.{OnlyReads};
 
 use crate::ahead::Ahead;
 use crate::body::Body;
@@ -72,12 +75,13 @@ impl ReplyReader {
         ensures plain { IfOk result (IsPlainHead self.old.wanted) }
         ensures fresh { IfOk result (λ head. (self.new.reading.given ≡ 0) × (self.new.reading.broke ≡ None)) }
         ensures size { IfOk result (λ head. self.new.size ≡ size_told (extent_of head)) }
+        ensures framed { IfOk result (λ head. IsFramedAs self.old.wanted head self.new head.kind) }
         ensures broke { W.tells → (W.told wire.old).given ≡ []
             → IfErr result (HeadBreaks self.old.wanted (stream_of (W.told wire.new))) }
         ensures unfinished { W.tells → (W.told wire.old).given ≡ []
             → IfErr result (LeavesHead (W.told wire.new).given) }
-        ensures sent { W.tells → (W.told wire.new).sent ≡ (W.told wire.old).sent }
-        ensures stays { (W.purpose wire.new ≡ W.purpose wire.old) × (W.origin wire.new ≡ W.origin wire.old) }
+        ensures own { IfErr result IsHeadFault }
+        ensures reads { OnlyReads W.tells W.told W.purpose W.origin W.wants wire.old wire.new }
         ensures cause { HasCause head_kind (W.faults wire.old) (W.faults wire.new) result }
     {
         match receive_head(alloc, &self.wanted, &mut self.ahead, wire) {
@@ -92,22 +96,26 @@ impl ReplyReader {
 
     /// Puts the next bytes of the content at the front of the buffer, and says how many, or that the
     /// content was given whole. After a cause it answers the same cause from then on. It takes no
-    /// memory; `Memory` is answered only where the wire had none.
+    /// memory; `Memory` is answered only where the wire wanted it.
     pub fn content<W: Wire>(&mut self, wire: &mut W, buf: &mut [u8]) -> Result<Got, Cause>
         requires { 0 < length buf.old }
-        ensures says { W.tells → (wanted : Asked) (content : List ℕ) → HasRead wanted (W.told wire.old).given self.old content
-            → ContentSays wanted (W.told wire.new) self.new result buf.new content }
-        ensures unfinished { W.tells → (wanted : Asked) (content : List ℕ) → HasRead wanted (W.told wire.old).given self.old content
-            → LeavesContent wanted (W.told wire.new).given content result }
+        ensures says { W.tells → (wanted : Asked) (head : ResponseHead) (content : List ℕ)
+            → HasRead wanted head (W.told wire.old).given self.old content → ContentSays wanted head (W.told wire.new) self.new result buf.new content }
+        ensures unfinished { W.tells → (wanted : Asked) (head : ResponseHead) (content : List ℕ)
+            → HasRead wanted head (W.told wire.old).given self.old content → LeavesContent wanted head (W.told wire.new).given content result }
+        ensures keeps { KeepsTo (least_of self.old.size (most_of self.old.reading.body)) self.old.reading.given (length buf.old) result }
+        ensures all { EndsAll self.old result }
         ensures advances { Advances self.old.reading self.new.reading result (length buf.old) }
         ensures in_part { IfSome self.new.size (λ size. self.new.reading.given ≤ size) }
-        ensures kept { (self.new.wanted ≡ self.old.wanted) × (self.new.size ≡ self.old.size) }
+        ensures kept { (self.new.wanted ≡ self.old.wanted) × (self.new.size ≡ self.old.size)
+            × (counted_of self.new.reading.body ≡ counted_of self.old.reading.body) }
         ensures ends { IfErr result (λ cause. self.new.reading.broke ≡ Some cause) }
         ensures repeats { IfSome self.old.reading.broke (λ cause. (result ≡ Err cause) × (self.new ≡ self.old) × (W.told wire.new ≡ W.told wire.old)) }
-        ensures sent { W.tells → (W.told wire.new).sent ≡ (W.told wire.old).sent }
-        ensures stays { (W.purpose wire.new ≡ W.purpose wire.old) × (W.origin wire.new ≡ W.origin wire.old) }
+        ensures reads { OnlyReads W.tells W.told W.purpose W.origin W.wants wire.old wire.new }
         ensures later { NoneFell (W.faults wire.old) (W.faults wire.new) }
         ensures cause { self.old.reading.broke ≡ None → HasCause cause_kind (W.faults wire.old) (W.faults wire.new) result }
+        ensures memory { self.old.reading.broke ≡ None → IfErr result (ShowsWant (W.wants wire.old) (W.wants wire.new)) }
+        ensures own { IfErr result (λ broke. IsTrue (is_content_cause broke)) }
     {
         if let Some(cause) = self.broke {
             return Err(cause);
@@ -121,14 +129,16 @@ impl ReplyReader {
         requires room { 0 < length buf.old }
         requires unbroken { self.old.reading.broke ≡ None }
         ensures keeps { KeepsTo (least_of self.old.size (most_of self.old.reading.body)) self.old.reading.given (length buf.old) result }
+        ensures all { EndsAll self.old result }
         ensures same { IsSameReader self.old self.new }
-        ensures says { W.tells → (wanted : Asked) (content : List ℕ) → HasRead wanted (W.told wire.old).given self.old content
-            → ContentSays wanted (W.told wire.new) (settled_reader self.new result) result buf.new content }
-        ensures unfinished { W.tells → (wanted : Asked) (content : List ℕ) → HasRead wanted (W.told wire.old).given self.old content
-            → LeavesContent wanted (W.told wire.new).given content result }
-        ensures sent { W.tells → (W.told wire.new).sent ≡ (W.told wire.old).sent }
-        ensures stays { (W.purpose wire.new ≡ W.purpose wire.old) × (W.origin wire.new ≡ W.origin wire.old) }
+        ensures says { W.tells → (wanted : Asked) (head : ResponseHead) (content : List ℕ)
+            → HasRead wanted head (W.told wire.old).given self.old content → ContentSays wanted head (W.told wire.new) (settled_reader self.new result) result buf.new content }
+        ensures unfinished { W.tells → (wanted : Asked) (head : ResponseHead) (content : List ℕ)
+            → HasRead wanted head (W.told wire.old).given self.old content → LeavesContent wanted head (W.told wire.new).given content result }
+        ensures reads { OnlyReads W.tells W.told W.purpose W.origin W.wants wire.old wire.new }
         ensures cause { HasCause cause_kind (W.faults wire.old) (W.faults wire.new) result }
+        ensures memory { IfErr result (ShowsWant (W.wants wire.old) (W.wants wire.new)) }
+        ensures own { IfErr result (λ broke. IsTrue (is_content_cause broke)) }
     {
         match self.size {
             Some(size) => self.next_of_part(size, wire, buf),
@@ -147,14 +157,16 @@ impl ReplyReader {
         requires unbroken { self.old.reading.broke ≡ None }
         requires size { self.old.size ≡ Some size }
         ensures keeps { KeepsTo (least_of self.old.size (most_of self.old.reading.body)) self.old.reading.given (length buf.old) result }
+        ensures all { EndsAll self.old result }
         ensures same { IsSameReader self.old self.new }
-        ensures says { W.tells → (wanted : Asked) (content : List ℕ) → HasRead wanted (W.told wire.old).given self.old content
-            → ContentSays wanted (W.told wire.new) (settled_reader self.new result) result buf.new content }
-        ensures unfinished { W.tells → (wanted : Asked) (content : List ℕ) → HasRead wanted (W.told wire.old).given self.old content
-            → LeavesContent wanted (W.told wire.new).given content result }
-        ensures sent { W.tells → (W.told wire.new).sent ≡ (W.told wire.old).sent }
-        ensures stays { (W.purpose wire.new ≡ W.purpose wire.old) × (W.origin wire.new ≡ W.origin wire.old) }
+        ensures says { W.tells → (wanted : Asked) (head : ResponseHead) (content : List ℕ)
+            → HasRead wanted head (W.told wire.old).given self.old content → ContentSays wanted head (W.told wire.new) (settled_reader self.new result) result buf.new content }
+        ensures unfinished { W.tells → (wanted : Asked) (head : ResponseHead) (content : List ℕ)
+            → HasRead wanted head (W.told wire.old).given self.old content → LeavesContent wanted head (W.told wire.new).given content result }
+        ensures reads { OnlyReads W.tells W.told W.purpose W.origin W.wants wire.old wire.new }
         ensures cause { HasCause cause_kind (W.faults wire.old) (W.faults wire.new) result }
+        ensures memory { IfErr result (ShowsWant (W.wants wire.old) (W.wants wire.new)) }
+        ensures own { IfErr result (λ broke. IsTrue (is_content_cause broke)) }
     {
         let given = self.given;
         if given == size {
@@ -170,15 +182,17 @@ impl ReplyReader {
         requires room { 0 < length buf.old }
         requires unbroken { self.old.reading.broke ≡ None }
         ensures keeps { KeepsTo (most_of self.old.reading.body) self.old.reading.given (length buf.old) result }
+        ensures all { EndsCounted self.old.reading result }
         ensures limit { most_of self.old.reading.body ≤ most_content }
         ensures same { IsSameReader self.old self.new }
         ensures says { W.tells → (wanted : Asked) (head : ResponseHead) (content : List ℕ) → HasFramed wanted head (W.told wire.old).given self.old.reading content
             → FramedSays wanted head (W.told wire.new) (settled self.new.reading result) result buf.new content }
         ensures unfinished { W.tells → (wanted : Asked) (head : ResponseHead) (content : List ℕ) → HasFramed wanted head (W.told wire.old).given self.old.reading content
             → LeavesFramed wanted head (W.told wire.new).given content result }
-        ensures sent { W.tells → (W.told wire.new).sent ≡ (W.told wire.old).sent }
-        ensures stays { (W.purpose wire.new ≡ W.purpose wire.old) × (W.origin wire.new ≡ W.origin wire.old) }
+        ensures reads { OnlyReads W.tells W.told W.purpose W.origin W.wants wire.old wire.new }
         ensures cause { HasCause cause_kind (W.faults wire.old) (W.faults wire.new) result }
+        ensures memory { IfErr result (ShowsWant (W.wants wire.old) (W.wants wire.new)) }
+        ensures own { IfErr result (λ broke. IsTrue (is_content_cause broke)) }
     {
         match self.body {
             Body::Counted(wanted) => give_counted(&mut self.ahead, wanted, self.given, wire, buf),
@@ -193,7 +207,8 @@ impl ReplyReader {
 
     /// Counts what is given, and keeps a cause.
     fn settle(&mut self, answer: Result<Got, Cause>) -> Result<Got, Cause>
-        requires { IsWithin (least_of self.old.size (most_of self.old.reading.body)) self.old.reading.given answer }
+        requires within { IsWithin (least_of self.old.size (most_of self.old.reading.body)) self.old.reading.given answer }
+        requires own { IfErr answer (λ broke. IsTrue (is_content_cause broke)) }
         ensures same { result ≡ answer }
         ensures after { self.new ≡ settled_reader self.old answer }
     {

@@ -3,7 +3,7 @@ use Rattle.dm_types.specs.Faults.{NoneFell}
 use Rattle.dm_disk_model.specs.Disk.{now, Stands}
 use Rattle.dm_disk_model.specs.Moments.{KeepsOthers}
 use Rattle.dm_edge.specs.Begins.{most_content}
-use Rattle.dm_reply.specs.Content.{HasRead}
+use Rattle.dm_cli.specs.Reading.{HasRead}
 use Rattle.dm_edge.specs.declared.wanted.Wanted.TheVariants as asks
 use Rattle.dm_cli.specs.Copying.{CopiedSoFar}
 use Rattle.dm_cli.proofs.copying.copy_content.Given as goal

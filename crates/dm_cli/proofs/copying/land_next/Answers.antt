@@ -3,7 +3,10 @@ use Rattle.dm_cli.proofs.copying.land_next.Goals as goal
 
 pub returns-in-Ok-End-clause-says : goal.returns-in-Ok-End-clause-says
 returns-in-Ok-End-clause-says g c tells_disk tells_wire content read written at_is =
-    record { whole = (rw c.in-Ok-End.field-0-is at (c.in-Ok-End.ensures.says tells_wire asks.Whole content read)).0; written = written }
+    record {
+      whole = record { head = read.head; all = (rw c.in-Ok-End.field-0-is at (c.in-Ok-End.ensures.says tells_wire asks.Whole read.head content read.behind)).0 };
+      written = written;
+    }
 
 pub returns-in-Err-clause-says : goal.returns-in-Err-clause-says
-returns-in-Err-clause-says g c tells_disk tells_wire content read written at_is = (c.in-Err.ensures.says tells_wire asks.Whole content read).0
+returns-in-Err-clause-says g c tells_disk tells_wire content read written at_is = (c.in-Err.ensures.says tells_wire asks.Whole read.head content read.behind).0

@@ -14,7 +14,7 @@ returns-in-Err-clause-sent g c tells fresh =
 
 pub returns-in-Err-head-clause-sent : goal.returns-in-Err-head-clause-sent
 returns-in-Err-head-clause-sent g c tells fresh =
-    inl (c.head.ensures.sent tells ∙ (c.in-Ok.ensures.sent tells).sent ∙ ap (λ (s : List ℕ). s ++ c.args.request.now) fresh.sent)
+    inl (c.head.ensures.reads.sent tells ∙ (c.in-Ok.ensures.sent tells).sent ∙ ap (λ (s : List ℕ). s ++ c.args.request.now) fresh.sent)
 
 pub returns-in-Ok-head-clause-kind : goal.returns-in-Ok-head-clause-kind
 returns-in-Ok-head-clause-kind g c tells fresh =

@@ -18,7 +18,7 @@ returns-then-taken-clause-says g c tells_disk tells_wire read =
     let stands = (c.in-Ok.ensures.taken tells_disk).0 c.if-taken.true in
     interrupts_says c.args.target.now c.args.name.now old (now (history c.is_taken.new.disk)) (g.D.Disk.faults c.is_taken.new.disk) Causes (stream_of told)
     (g.D.Disk.faults c.args.disk.now) (reason_of_cause cause.NamesTaken) c.broken.result
-    (met_at Causes cause.NamesTaken (inr (taken refl stands (content_more told.given read.head _ read.framed.bytes read.framed.begins told.left))))
+    (met_at Causes cause.NamesTaken (inr (taken refl stands (content_more told.given read.head _ read.behind.framed.bytes read.behind.framed.begins told.left))))
     (ap (λ (d : DiskState). bytes_at d c.args.target.now) (ap now c.is_taken.ensures.stays)) c.broken.ensures.interrupts
 
 pub returns-else-taken-clause-says : goal.returns-else-taken-clause-says

@@ -1,5 +1,9 @@
-use Rattle.std.proofs.Common.{◌≡◌, ◌≤◌, ◌+◌, List, ℕ, length, [], arith, refl, subst, sym, ap, ◌∙◌}
+use Rattle.std.proofs.Common.{◌≡◌, ◌≤◌, ◌+◌, List, ℕ, length, [], arith, refl, subst, sym, ap}
 use Rattle.dm_chunk.specs.declared.Step.TheVariants as steps
+use Rattle.std.specs.Prelude.{IsTrue}
+use Rattle.dm_edge.specs.Causes.{is_content_cause}
+use Rattle.dm_reply.proofs.ReadsLemmas.{reads_none, reads_then, wanted_since, wire_own, wire_wants}
+use Rattle.dm_reply.specs.Steps.{ShowsWant}
 use Rattle.dm_policy.specs.declared.cause.Cause.{Cause}
 use Rattle.dm_edge.specs.Wire.{stream_of}
 use Rattle.dm_edge.specs.Begins.{most_content}
@@ -20,8 +24,7 @@ loop-from-preserved g c =
       read = λ tells asked head content has.
           chunks_grown asked head (g.W.Wire.told c.loop-from.wire) (g.W.Wire.told c.refill.new.wire) c.args.given c.in-Ok.field-0 c.loop-from.chunks c.step.new.self
           c.loop-from.ahead c.refill.new.self content (before.read tells asked head content has) step (c.in-Ok.ensures.told tells);
-      sent = λ tells. c.in-Ok.ensures.sent tells ∙ before.sent tells;
-      stays = (c.in-Ok.ensures.stays.0 ∙ before.stays.0, c.in-Ok.ensures.stays.1 ∙ before.stays.1);
+      reads = reads_then _ _ _ before.reads c.in-Ok.ensures.reads;
       later = λ kind. omega (arith, before.later kind, c.in-Ok.ensures.cause.later kind);
     }
 
@@ -83,10 +86,29 @@ returns-in-Err-clause-says g c tells asked head content has =
     let step = subst (λ (a : List ℕ). Steps c.loop-from.chunks c.step.new.self a steps.More) c.bytes.ensures.same c.in-More.ensures.decodes in
     let front = chunks_stopped asked head (g.W.Wire.told c.loop-from.wire) (g.W.Wire.told c.refill.new.wire) c.args.given c.loop-from.chunks c.step.new.self
     c.loop-from.ahead content (c.loop-from.invariant.read tells asked head content has) step (c.in-Err.ensures.told tells) in
-    (subst (λ (cause : Cause). FramedBroke asked head (stream_of (g.W.Wire.told c.refill.new.wire)) content cause) (sym c.cause_of.ensures) (stopped front c.in-Err.fault), refl)
+    (subst (λ (cause : Cause). FramedBroke asked head (stream_of (g.W.Wire.told c.refill.new.wire)) content cause) (sym c.wire_cause.ensures) (stopped front c.in-Err.fault), refl)
 
 pub returns-in-Err-clause-unfinished : goal.returns-in-Err-clause-unfinished
 returns-in-Err-clause-unfinished g c tells asked head content has fault =
     let step = subst (λ (a : List ℕ). Steps c.loop-from.chunks c.step.new.self a steps.More) c.bytes.ensures.same c.in-More.ensures.decodes in
     chunks_unfinished asked head (g.W.Wire.told c.loop-from.wire) (g.W.Wire.told c.refill.new.wire) c.args.given c.loop-from.chunks c.step.new.self
     c.loop-from.ahead content (c.loop-from.invariant.read tells asked head content has) step (c.in-Err.ensures.told tells)
+
+pub returns-in-Ok-eq0-clause-reads : goal.returns-in-Ok-eq0-clause-reads
+returns-in-Ok-eq0-clause-reads g c = reads_then _ _ _ c.loop-from.invariant.reads c.in-Ok-eq0.ensures.reads
+
+pub returns-in-Err-clause-reads : goal.returns-in-Err-clause-reads
+returns-in-Err-clause-reads g c = reads_then _ _ _ c.loop-from.invariant.reads c.in-Err.ensures.reads
+
+pub returns-in-Err-clause-own : goal.returns-in-Err-clause-own
+returns-in-Err-clause-own g c = subst (λ (broke : Cause). IsTrue (is_content_cause broke)) (sym c.wire_cause.ensures) (wire_own c.in-Err.fault)
+
+pub returns-in-Err-clause-memory : goal.returns-in-Err-clause-memory
+returns-in-Err-clause-memory g c =
+    let W = g.W.Wire in
+    subst (ShowsWant (W.wants c.args.wire.now) (W.wants c.refill.new.wire)) (sym c.wire_cause.ensures)
+    (wire_wants (W.wants c.args.wire.now) (W.wants c.refill.new.wire) c.in-Err.fault
+    (λ memory. wanted_since (W.wants c.args.wire.now) (W.wants c.loop-from.wire) (W.wants c.refill.new.wire) c.loop-from.invariant.reads.later (c.in-Err.ensures.wants.rose memory)))
+
+pub loop-from-init : goal.loop-from-init
+loop-from-init g c = record { read = λ tells asked head content has. has; reads = reads_none _; later = λ kind. omega arith }

@@ -1,4 +1,8 @@
 use Rattle.std.proofs.Common.{arith, refl, subst, sym}
+use Rattle.std.specs.Prelude.{IsTrue}
+use Rattle.dm_edge.specs.Causes.{is_content_cause}
+use Rattle.dm_reply.proofs.ReadsLemmas.{reads_none, wire_own, wire_wants}
+use Rattle.dm_reply.specs.Steps.{ShowsWant}
 use Rattle.dm_policy.specs.declared.cause.Cause.{Cause}
 use Rattle.dm_edge.specs.Wire.{stream_of}
 use Rattle.dm_edge.specs.Begins.{most_content}
@@ -19,4 +23,15 @@ pub returns-in-Err-clause-says : goal.returns-in-Err-clause-says
 returns-in-Err-clause-says g c tells asked head content has =
     let front = to_end_front asked head (g.W.Wire.told c.args.wire.now) (g.W.Wire.told c.receive.new.wire) most_content c.args.ahead.now content has
     (c.in-Err.ensures.told tells) in
-    subst (λ (cause : Cause). FramedBroke asked head (stream_of (g.W.Wire.told c.receive.new.wire)) content cause) (sym c.cause_of.ensures) (stopped front c.in-Err.fault)
+    subst (λ (cause : Cause). FramedBroke asked head (stream_of (g.W.Wire.told c.receive.new.wire)) content cause) (sym c.wire_cause.ensures) (stopped front c.in-Err.fault)
+
+pub returns-then-not-is_empty-clause-reads : goal.returns-then-not-is_empty-clause-reads
+returns-then-not-is_empty-clause-reads g c = reads_none _
+
+pub returns-in-Err-clause-own : goal.returns-in-Err-clause-own
+returns-in-Err-clause-own g c = subst (λ (broke : Cause). IsTrue (is_content_cause broke)) (sym c.wire_cause.ensures) (wire_own c.in-Err.fault)
+
+pub returns-in-Err-clause-memory : goal.returns-in-Err-clause-memory
+returns-in-Err-clause-memory g c =
+    subst (ShowsWant (g.W.Wire.wants c.args.wire.now) (g.W.Wire.wants c.receive.new.wire)) (sym c.wire_cause.ensures)
+    (wire_wants (g.W.Wire.wants c.args.wire.now) (g.W.Wire.wants c.receive.new.wire) c.in-Err.fault c.in-Err.ensures.wants.rose)

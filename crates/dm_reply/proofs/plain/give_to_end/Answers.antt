@@ -1,9 +1,12 @@
 use Rattle.std.proofs.Common.{◌≤◌, ◌+◌, length, arith, refl, subst, sym}
+use Rattle.std.specs.Prelude.{IsTrue}
+use Rattle.dm_edge.specs.Causes.{is_content_cause}
+use Rattle.dm_reply.proofs.ReadsLemmas.{wire_own, wire_wants}
 use Rattle.dm_policy.specs.declared.cause.Cause.{Cause}
 use Rattle.dm_edge.specs.Wire.{stream_of}
 use Rattle.dm_edge.specs.Begins.{most_content}
 use Rattle.dm_edge.specs.Reply.{FramedBroke}
-use Rattle.dm_reply.specs.Steps.{Nexts}
+use Rattle.dm_reply.specs.Steps.{Nexts, ShowsWant}
 use Rattle.dm_reply.proofs.PlainLemmas.{stopped, to_end_on, to_end_front, to_end_ends, end_says}
 use Rattle.dm_reply.proofs.plain.give_to_end.Goals as goal
 
@@ -23,7 +26,7 @@ pub returns-in-Err-clause-says : goal.returns-in-Err-clause-says
 returns-in-Err-clause-says g c tells asked head content has =
     let front = to_end_front asked head (g.W.Wire.told c.args.wire.now) (g.W.Wire.told c.next.new.wire) c.args.given c.args.ahead.now content has
     (c.in-Err.ensures.told tells) in
-    (subst (λ (cause : Cause). FramedBroke asked head (stream_of (g.W.Wire.told c.next.new.wire)) content cause) (sym c.cause_of.ensures) (stopped front c.in-Err.fault), refl)
+    (subst (λ (cause : Cause). FramedBroke asked head (stream_of (g.W.Wire.told c.next.new.wire)) content cause) (sym c.wire_cause.ensures) (stopped front c.in-Err.fault), refl)
 
 pub returns-in-Ok-eq0-clause-says : goal.returns-in-Ok-eq0-clause-says
 returns-in-Ok-eq0-clause-says g c tells asked head content has =
@@ -31,3 +34,11 @@ returns-in-Ok-eq0-clause-says g c tells asked head content has =
     c.in-Ok-eq0.field-0-test (c.in-Ok-eq0.ensures.told tells) in
     to_end_ends asked head (g.W.Wire.told c.args.wire.now) (g.W.Wire.told c.next.new.wire) c.args.given c.args.ahead.now c.next.new.ahead c.next.new.buf content
     has nexts
+
+pub returns-in-Err-clause-own : goal.returns-in-Err-clause-own
+returns-in-Err-clause-own g c = subst (λ (broke : Cause). IsTrue (is_content_cause broke)) (sym c.wire_cause.ensures) (wire_own c.in-Err.fault)
+
+pub returns-in-Err-clause-memory : goal.returns-in-Err-clause-memory
+returns-in-Err-clause-memory g c =
+    subst (ShowsWant (g.W.Wire.wants c.args.wire.now) (g.W.Wire.wants c.next.new.wire)) (sym c.wire_cause.ensures)
+    (wire_wants (g.W.Wire.wants c.args.wire.now) (g.W.Wire.wants c.next.new.wire) c.in-Err.fault c.in-Err.ensures.wants.rose)
