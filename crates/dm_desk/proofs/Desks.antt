@@ -10,7 +10,7 @@ use Rattle.dm_disk_model.specs.Disk.{History as Clock, Stands, now}
 use Rattle.dm_item.specs.Lawful.{History}
 use Rattle.dm_item.specs.Listing.{Listing, applied}
 use Rattle.dm_journal.specs.AtRest.{journal_place}
-use Rattle.dm_kept.specs.Room.{most_items}
+use Rattle.dm_types.specs.Limits.{IsLimits}
 use Rattle.dm_kept.proofs.Images.{sits_stands}
 use Rattle.dm_kept.proofs.Listings.{limit_applied}
 use Rattle.dm_kept.specs.Keeping.{Does}
@@ -57,7 +57,7 @@ module _ {D O : Type 0} (tells : Type 0) (clock : D → Clock) (old new : View D
   pub recorded_desk : (tells → (history : History) → Stays history old.gate old.items (clock old.disk) → RecordDoes (clock old.disk) (clock new.disk) new.gate new.items history entry (Ok tt)) → IsDesk tells clock new
   recorded_desk does = record {
     limit = limit_kept;
-    few = subst (λ (l : Limits). l.items ≤ most_items) (sym limits) is.few;
+    limits_are = subst IsLimits (sym limits) is.limits_are;
     holds = λ told unbroken.
         let held = is.holds told whole in
         let did = does told held.0 (stays_of clock old held.0 held.1) in
@@ -67,6 +67,6 @@ module _ {D O : Type 0} (tells : Type 0) (clock : D → Clock) (old new : View D
   pub broken_desk : new.broken ≡ true → IsDesk tells clock new
   broken_desk broken = record {
     limit = limit_kept;
-    few = subst (λ (l : Limits). l.items ≤ most_items) (sym limits) is.few;
+    limits_are = subst IsLimits (sym limits) is.limits_are;
     holds = λ told unbroken. absurd (false≢true (sym unbroken ∙ broken));
   }

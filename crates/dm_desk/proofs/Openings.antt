@@ -19,7 +19,7 @@ use Rattle.dm_journal.specs.Text.{IsJournalText}
 use Rattle.dm_journal.specs.declared.fault.JournalFault.{JournalFault}
 use Rattle.dm_journal.specs.declared.fault.JournalFault.TheVariants as faults
 use Rattle.dm_kept.specs.Recovery.{Kept, Recovers, Through}
-use Rattle.dm_kept.specs.Room.{most_items}
+use Rattle.dm_types.specs.Limits.{most_items}
 use Rattle.dm_kept.specs.Spelled.{Records, bodies_of}
 use Rattle.dm_kept.proofs.Histories.{taken_more}
 use Rattle.dm_kept.proofs.Images.{at_first, kept_weaker}

@@ -17,11 +17,13 @@ use Rattle.dm_item.proofs.Histories.{keeps_step}
 use Rattle.dm_journal.specs.AtRest.{AtRest, WithOrWithout}
 use Rattle.dm_kept.specs.Keeping.{Does}
 use Rattle.dm_kept.specs.Recovery.{Kept, Sits, Through}
-use Rattle.dm_kept.specs.Room.{MayFollow, most_items}
+use Rattle.dm_kept.specs.Room.{MayFollow}
+use Rattle.dm_types.specs.Limits.{most_items}
 use Rattle.dm_kept.specs.Spelled.{bodies_of}
 use Rattle.dm_kept.proofs.Histories.{follows_more}
 use Rattle.dm_kept.proofs.Images.{moments, sits_kept, sits_more}
-use Rattle.dm_kept.proofs.Listings.{declined, follows_of}
+use Rattle.dm_item.proofs.Declined.{declined}
+use Rattle.dm_kept.proofs.Listings.{follows_of}
 use Rattle.dm_desk.specs.Recording.{RecordDoes, Stays}
 use Rattle.dm_desk.specs.declared.fault.Unrecorded.TheVariants.{NoMemory, Journal}
 

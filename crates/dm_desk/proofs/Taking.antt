@@ -19,7 +19,8 @@ use Rattle.dm_kept.specs.Damage.{IsRefused}
 use Rattle.dm_kept.specs.Room.{IsTaken, MayFollow}
 use Rattle.dm_kept.specs.Spelled.{AllEntries, bodies_of}
 use Rattle.dm_kept.proofs.Histories.{bodies_push, entries_push, same_entry, taken_push}
-use Rattle.dm_kept.proofs.Listings.{declined, follows_of, limit_applied, meets_of, room_of}
+use Rattle.dm_item.proofs.Declined.{declined}
+use Rattle.dm_kept.proofs.Listings.{follows_of, limit_applied, meets_of, room_of}
 use Rattle.dm_desk.specs.Bodies.{IsEntryTaken, IsListOf, IsRefusedAt, ReadsBody, TakesBody, TakesEntry, WholeEntry, apply_fault, read_fault}
 use Rattle.dm_desk.specs.declared.bodies.BodyFault.{BodyFault}
 use Rattle.dm_desk.specs.declared.bodies.BodyFault.TheVariants as faults

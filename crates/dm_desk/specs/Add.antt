@@ -1,5 +1,5 @@
 -- What adding an item answers.
-use Rattle.std.specs.Prelude.{◌≡◌, ◌≢◌, ◌⊎◌, ◌≤◌, ℕ, true, false, List, [], ◌∷◌, length, Result, Ok, Err}
+use Rattle.std.specs.Prelude.{◌≡◌, ◌≢◌, ◌⊎◌, ◌≤◌, ℕ, true, false, List, [], ◌∷◌, length, Some, Result, Ok, Err}
 use Rattle.dm_types.specs.declared.entry.Entry.{Entry}
 use Rattle.dm_types.specs.declared.entry.Entry.TheVariants.{Added}
 use Rattle.dm_types.specs.declared.item.Item.{Item}
@@ -7,8 +7,8 @@ use Rattle.dm_types.specs.declared.item.ItemId.{ItemId}
 use Rattle.dm_disk_model.specs.Disk.{History as Clock}
 use Rattle.dm_record.specs.Limits.{AtMost}
 use Rattle.dm_item.specs.Lawful.{History}
-use Rattle.dm_item.specs.Words.{HasNoWord, IsFreeWord}
-use Rattle.dm_item.specs.Listing.{HasRoom, Listing, applied}
+use Rattle.dm_item.specs.Words.{HasWordOf, IsFreeWord}
+use Rattle.dm_item.specs.Listing.{HasRoom, Listing, applied, item_in}
 use Rattle.dm_kept.specs.Keeping.{Does}
 use Rattle.dm_desk.specs.View.{HoldsOf, View}
 use Rattle.dm_desk.specs.declared.order.Order.{Order}
@@ -16,8 +16,6 @@ use Rattle.dm_desk.specs.declared.order.Taken.{Taken}
 use Rattle.dm_desk.specs.declared.order.Taken.TheVariants.{New, Same}
 use Rattle.dm_desk.specs.declared.adding.Checked.{Checked}
 use Rattle.dm_desk.specs.declared.adding.Checked.TheVariants as checks
-use Rattle.dm_desk.specs.declared.adding.Known.{Known}
-use Rattle.dm_desk.specs.declared.adding.Known.TheVariants as known
 use Rattle.dm_desk.specs.declared.fault.DeskFault.{DeskFault}
 use Rattle.dm_desk.specs.declared.fault.DeskFault.TheVariants as faults
 
@@ -27,20 +25,20 @@ pub record IsOrder (order : Order) : Type 0 where
   pub address : AtMost 4096 order.address.text
   pub wish : AtMost 255 order.wish
 
--- P holds of the first item with the word
-abbrev pub FirstWith : List ℕ → (Item → Type 0) → List Item → Type 0
-FirstWith word P [] = ⊥
-FirstWith word P (item ∷ rest) = ((item.word ≡ word) × P item) ⊎ ((item.word ≢ word) × FirstWith word P rest)
+-- the word isn't empty, its item has this id, and P holds of the item with the id
+pub record HasItem (items : List Item) (word : List ℕ) (id : ItemId) (P : Item → Type 0) : Type 0 where
+  pub named : HasWordOf word items id
+  pub item : Item
+  pub there : item_in id.0 items ≡ Some item
+  pub is : P item
 
--- the word isn't empty, and the item with it has this id and this first address
-pub record IsKnown (items : List Item) (order : Order) (id : ItemId) : Type 0 where
-  pub some : order.word ≢ []
-  pub item : FirstWith order.word (λ item. (item.id ≡ id) × (item.first_address ≡ order.address.text)) items
+-- the item with the order's word has this id and the order's address
+abbrev pub IsKnown : List Item → Order → ItemId → Type 0
+IsKnown items order id = HasItem items order.word id (λ item. item.first_address ≡ order.address.text)
 
--- the word isn't empty, and the item with it has this id and another first address
-pub record IsOther (items : List Item) (order : Order) (id : ItemId) : Type 0 where
-  pub some : order.word ≢ []
-  pub item : FirstWith order.word (λ item. (item.id ≡ id) × (item.first_address ≢ order.address.text)) items
+-- the item with the order's word has this id and another first address
+abbrev pub IsOther : List Item → Order → ItemId → Type 0
+IsOther items order id = HasItem items order.word id (λ item. item.first_address ≢ order.address.text)
 
 -- the list is full, or the ids are used up
 abbrev pub IsFull : Listing → Type 0
@@ -54,12 +52,6 @@ added_by items order at = Added (record { 0 = items.next }) order.word order.add
 pub record IsNew (items : Listing) (order : Order) : Type 0 where
   pub free : IsFreeWord order.word items.items
   pub room : HasRoom items
-
--- what is known of a word that isn't empty
-abbrev pub KnownBy : List Item → List ℕ → List ℕ → Known → Type 0
-KnownBy items word address known.Nothing = HasNoWord word items
-KnownBy items word address (known.Here id) = FirstWith word (λ item. (item.id ≡ id) × (item.first_address ≡ address)) items
-KnownBy items word address (known.Elsewhere id) = FirstWith word (λ item. (item.id ≡ id) × (item.first_address ≢ address)) items
 
 -- whether there is room
 abbrev pub RoomBy : Listing → Checked → Type 0

@@ -1,11 +1,11 @@
 -- What a desk is, seen from outside.
 use Rattle.std.specs.Prelude.{◌≡◌, ◌≤◌, ℕ, Bool, false}
 use Rattle.dm_types.specs.declared.item.Limits.{Limits}
+use Rattle.dm_types.specs.Limits.{IsLimits}
 use Rattle.dm_disk_model.specs.Disk.{History as Clock, now}
 use Rattle.dm_item.specs.Listing.{Listing}
 use Rattle.dm_item.specs.Lawful.{History, IsOf}
 use Rattle.dm_kept.specs.Recovery.{Sits}
-use Rattle.dm_kept.specs.Room.{most_items}
 
 pub record View (D O : Type 0) : Type 0 where
   pub disk : D
@@ -22,16 +22,8 @@ pub record HoldsOf {D O : Type 0} (clock : D → Clock) (desk : View D O) (histo
   pub sits : Sits history desk.gate (now (clock desk.disk))
   pub items : IsOf history desk.items
 
--- what every desk keeps, where its disk tells what it holds
+-- what every desk keeps; of the journal only where its disk tells what it holds
 pub record IsDesk {D O : Type 0} (tells : Type 0) (clock : D → Clock) (desk : View D O) : Type 0 where
   pub limit : desk.items.limit ≡ desk.limits.items
-  pub few : desk.limits.items ≤ most_items
+  pub limits_are : IsLimits desk.limits
   pub holds : tells → desk.broken ≡ false → (history : History) × HoldsOf clock desk history
-
--- each limit is at least 1 and, but for the journal's, at most the greatest
-pub record IsLimits (limits : Limits) : Type 0 where
-  pub items : (1 ≤ limits.items) × (limits.items ≤ most_items)
-  pub checkpoint : (1 ≤ limits.checkpoint) × (limits.checkpoint ≤ 1048576)
-  pub piece : (1 ≤ limits.piece) × (limits.piece ≤ 65536)
-  pub min_slice : (1 ≤ limits.min_slice) × (limits.min_slice ≤ 1048576)
-  pub journal : 1 ≤ limits.journal

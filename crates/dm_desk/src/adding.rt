@@ -1,19 +1,10 @@
 ghost use Rattle.std.specs.Prelude.{◌≡◌, ◌↔◌, IsTrue};
 ghost use Rattle.dm_types.specs.declared.entry.Entry.TheVariants.{Added as added_entry};
-ghost use Rattle.dm_desk.specs.Add.{CheckedBy, IsFull, KnownBy, RoomBy};
+ghost use Rattle.dm_desk.specs.Add.{CheckedBy, IsFull, RoomBy};
 
 use crate::order::Order;
 use dm_item::Items;
-use dm_types::{Address, Entry, Item, ItemId};
-
-/// What the list has under a word and an address.
-pub(crate) enum Known {
-    Nothing,
-    /// This item has the word and the address.
-    Here(ItemId),
-    /// This item has the word, and another address.
-    Elsewhere(ItemId),
-}
+use dm_types::{Address, Entry, ItemId};
 
 /// What the list says of an order.
 pub(crate) enum Checked {
@@ -25,23 +16,6 @@ pub(crate) enum Checked {
     Other(ItemId),
     /// The list is full, or the ids are used up. It holds how many items there are.
     Full(u32),
-}
-
-fn find_known(items: &[Item], word: &[u8], address: &[u8]) -> Known
-    ensures { KnownBy items.now word.now address.now result }
-{
-    match items {
-        [] => Known::Nothing,
-        [item, rest @ ..] => {
-            if !item.word.is(word) {
-                find_known(rest, word, address)
-            } else if item.first_address.is(address) {
-                Known::Here(item.id)
-            } else {
-                Known::Elsewhere(item.id)
-            }
-        }
-    }
 }
 
 fn is_full(items: &Items, limit: u32) -> bool
@@ -67,22 +41,18 @@ pub(crate) fn check_order(items: &Items, limit: u32, order: &Order) -> Checked
     requires { items.now.limit ≡ limit }
     ensures { CheckedBy items.now order.now result }
 {
-    if order.word.is_empty() {
+    let Some(id) = items.by_word(order.word.bytes()) else {
         return check_room(items, limit);
-    }
-    match find_known(
-        items.items(),
-        order.word.bytes(),
-        order.address.text.bytes(),
-    ) {
-        Known::Nothing => check_room(items, limit),
-        Known::Here(id) => Checked::Known(id),
-        Known::Elsewhere(id) => Checked::Other(id),
+    };
+    let Some(item) = items.get(id) else {
+        unreachable!()
+    };
+    if item.first_address.same(&order.address.text) {
+        Checked::Known(id)
+    } else {
+        Checked::Other(id)
     }
 }
-
-/// Lets an order go.
-pub(crate) fn let_go_order(_order: Order) {}
 
 /// The entry of an order.
 pub(crate) fn added(order: Order, id: ItemId, at: u64) -> Entry

@@ -3,11 +3,10 @@ ghost use Rattle.dm_item.specs.Lawful.{IsOf};
 ghost use Rattle.dm_journal.specs.Text.{front};
 ghost use Rattle.dm_desk.specs.Bodies.{ReadsBody, TakesBodies, TakesBody, TakesEntry, WholeEntry, apply_fault, read_fault};
 
-use crate::recording::let_go;
 use dm_item::{ApplyFault, Items};
 use dm_journal::TextFault;
 use dm_record::{RecordFault, read_entry};
-use dm_types::{Entry, Text};
+use dm_types::{Entry, Text, let_go};
 use std::alloc::Global;
 
 /// Why a body was not taken.

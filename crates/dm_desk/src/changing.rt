@@ -4,9 +4,8 @@ ghost use Rattle.dm_item.specs.Listing.{item_in};
 ghost use Rattle.dm_desk.specs.Changing.{ChangeChecked, entry_of, leaves};
 
 use crate::fault::DeskFault;
-use crate::recording::let_go;
 use dm_item::Items;
-use dm_types::{Entry, ItemId, Phase};
+use dm_types::{Entry, ItemId, Phase, let_go};
 
 /// What the user makes of an item.
 #[derive(Clone, Copy)]

@@ -4,19 +4,19 @@ ghost use Rattle.dm_types.specs.Faults.{HasCause};
 ghost use Rattle.dm_disk_model.specs.Disk.{now};
 ghost use Rattle.dm_disk_model.specs.Moments.{KeepsFiles};
 
-use crate::adding::{Checked, added, check_order, let_go_order};
+use crate::adding::{Checked, added, check_order};
 use crate::changing::{Change, check_change, entry_of};
 use crate::due::first_due;
 use crate::fault::{DeskFault, OpenFault, Unrecorded};
 use crate::opening::{FoundList, open_list, reopen_fault, reopen_list};
 use crate::order::{Order, Taken};
 use crate::page::{IdList, ids_above};
-use crate::recording::{let_go, record, record_light};
+use crate::recording::{record, record_light};
 use dm_disk_model::Disk;
 use dm_edge::Origin;
 use dm_item::Items;
 use dm_journal::{Journal, JournalFault};
-use dm_types::{By, Entry, Item, ItemId, Limits, Mode, NoMemory};
+use dm_types::{By, Entry, Item, ItemId, Limits, Mode, NoMemory, let_go};
 use std::alloc::Global;
 use std::marker::Model;
 
@@ -70,7 +70,8 @@ impl<D: Disk, O: Origin> Desk<D, O> {
     ghost use Rattle.dm_disk_model.specs.Moments.{LeavesOnly};
     ghost use Rattle.dm_desk.specs.Opening.{Fails, IsOpened, IsReopenFault, OpenLeaves, ReopenFails, ReopenKeeps, disk_in, fault_of};
     ghost use Rattle.dm_desk.specs.Opened.{IsMade, disk_of};
-    ghost use Rattle.dm_desk.specs.View.{HoldsOf, IsLimits};
+    ghost use Rattle.dm_desk.specs.View.{HoldsOf};
+    ghost use Rattle.dm_types.specs.Limits.{IsLimits};
     ghost use Rattle.dm_record.specs.Limits.{IsSpellable};
 
     /// Opens the list of a disk: finds its journal or starts it, reads its entries, and records that
@@ -162,21 +163,21 @@ impl<D: Disk, O: Origin> Desk<D, O> {
         ensures cause { HasCause desk_kind (D.faults self.old.disk) (D.faults self.new.disk) result }
     {
         if self.broken {
-            let_go_order(order);
+            let_go(order);
             return Err(DeskFault::Broken);
         }
         match check_order(&self.items, self.limits.items, &order) {
             Checked::Fits(id) => self.add_new(order, id, at),
             Checked::Known(id) => {
-                let_go_order(order);
+                let_go(order);
                 Ok(Taken::Same(id))
             }
             Checked::Other(id) => {
-                let_go_order(order);
+                let_go(order);
                 Err(DeskFault::WordTaken(id))
             }
             Checked::Full(count) => {
-                let_go_order(order);
+                let_go(order);
                 Err(DeskFault::ItemsFull(count))
             }
         }

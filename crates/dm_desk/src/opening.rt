@@ -9,7 +9,7 @@ ghost use Rattle.dm_journal.specs.AtRest.{AtRest, journal_place};
 ghost use Rattle.dm_journal.specs.Fault.{IsNoDamage, journal_kind};
 ghost use Rattle.dm_journal.specs.Starting.{NoneOrBlank};
 ghost use Rattle.dm_journal.specs.Text.{front};
-ghost use Rattle.dm_kept.specs.Room.{most_items};
+ghost use Rattle.dm_types.specs.Limits.{most_items};
 ghost use Rattle.dm_desk.specs.Bodies.{IsListOf, ListFails, text_fault};
 ghost use Rattle.dm_desk.specs.Faults.{unrecorded_kind};
 ghost use Rattle.dm_desk.specs.Opening.{Fails, IsFound, IsOpened, OpenLeaves, ReopenKeeps, reopen_fault, reopened_by, unrecorded_fault};
@@ -17,11 +17,11 @@ ghost use Rattle.dm_desk.specs.Recording.{RecordDoes, Stays};
 
 use crate::bodies::take_bodies;
 use crate::fault::{DeskFault, Unrecorded};
-use crate::recording::{let_go, record_light};
+use crate::recording::record_light;
 use dm_disk_model::Disk;
 use dm_item::Items;
 use dm_journal::{Bodies, Journal, JournalFault, TextFault};
-use dm_types::{Entry, NoMemory, Text};
+use dm_types::{Entry, NoMemory, Text, let_go};
 use std::alloc::Global;
 use std::mem::replace;
 
@@ -52,9 +52,6 @@ fn text_fault(fault: TextFault) -> JournalFault
     }
 }
 
-/// Lets a list go.
-fn let_go_list(_list: FoundList) {}
-
 /// Takes the bodies of a journal into its empty list.
 fn take_list(alloc: Global, bodies: &[Text], list: FoundList) -> Result<FoundList, JournalFault>
     requires empty { list.items ≡ empty_list list.items.limit }
@@ -69,7 +66,7 @@ fn take_list(alloc: Global, bodies: &[Text], list: FoundList) -> Result<FoundLis
     match take_bodies(alloc, bodies, end, &mut list.items) {
         Ok(()) => Ok(list),
         Err(fault) => {
-            let_go_list(list);
+            let_go(list);
             Err(text_fault(fault))
         }
     }
@@ -191,7 +188,7 @@ pub(crate) fn open_list<D: Disk>(
     match record_reopened(alloc, disk, &mut list.journal, &mut list.items, at) {
         Ok(()) => Ok(list),
         Err(fault) => {
-            let_go_list(list);
+            let_go(list);
             Err(unrecorded_fault(fault))
         }
     }
@@ -220,7 +217,7 @@ fn put_list(list: FoundList, journal: &mut Journal, items: &mut Items)
         journal: replace(journal, new_journal),
         items: replace(items, new_items),
     };
-    let_go_list(old);
+    let_go(old);
 }
 
 /// Finds the list anew, and records that it was opened. Once the list was found it stands in the place

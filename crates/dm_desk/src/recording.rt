@@ -6,7 +6,7 @@ ghost use Rattle.dm_record.specs.Limits.{IsSpellable};
 ghost use Rattle.dm_item.specs.Before.{adds_or_changes};
 ghost use Rattle.dm_item.specs.Lawful.{History};
 ghost use Rattle.dm_journal.specs.AtRest.{journal_place};
-ghost use Rattle.dm_kept.specs.Room.{most_items};
+ghost use Rattle.dm_types.specs.Limits.{most_items};
 ghost use Rattle.dm_desk.specs.Faults.{unrecorded_kind};
 ghost use Rattle.dm_item.specs.Listing.{Admits, Takes, is_light};
 ghost use Rattle.dm_desk.specs.Recording.{RecordDoes, RecordMakes, Stays};
@@ -18,9 +18,6 @@ use dm_journal::Journal;
 use dm_record::write_entry;
 use dm_types::Entry;
 use std::alloc::Global;
-
-/// Lets an entry go.
-pub(crate) fn let_go(_entry: Entry) {}
 
 /// Puts an entry that the list takes into the list and into the journal. All memory is taken before
 /// the disk is called. Where the journal fails the list is as it was, and the journal perhaps has the

@@ -1,29 +1,15 @@
 // How a desk is put on a disk in memory.
 ghost use Rattle.std.specs.Prelude.{◌≡◌, ◌≤◌, length, IfOk};
 ghost use Rattle.dm_desk.specs.Add.{IsOrder};
-ghost use Rattle.dm_desk.specs.View.{IsLimits};
 ghost use Rattle.dm_journal.specs.AtRest.{journal_place};
 
 use dm_desk::{Desk, DeskFault, OpenFault, Order, Taken};
 use dm_disk::{Area, Disk, DiskFault, FailingCall, MemoryDisk, Place};
 use dm_edge::EveryByte;
-use dm_types::{Address, DiskKind, Limits, Listed, NoMemory, Text};
+use dm_types::{Address, DiskKind, LIMITS, Listed, NoMemory, Text};
 use std::alloc::Global;
 
 pub(crate) type MemoryDesk = Desk<MemoryDisk, EveryByte>;
-
-/// The limits of every run.
-fn limits() -> Limits
-    ensures { IsLimits result }
-{
-    Limits {
-        items: 4096,
-        checkpoint: 1_048_576,
-        piece: 65_536,
-        min_slice: 1_048_576,
-        journal: 16_777_216,
-    }
-}
 
 /// An order for an address under a word.
 fn order(alloc: Global, word: &[u8], address: &[u8]) -> Result<Order, NoMemory>
@@ -48,7 +34,7 @@ fn order(alloc: Global, word: &[u8], address: &[u8]) -> Result<Order, NoMemory>
 
 /// Opens the desk of a disk at moment 0.
 pub(crate) fn open(alloc: Global, disk: MemoryDisk) -> Result<MemoryDesk, OpenFault<MemoryDisk>> {
-    Desk::open(alloc, disk, EveryByte, limits(), 0)
+    Desk::open(alloc, disk, EveryByte, LIMITS, 0)
 }
 
 /// Adds an address under a word at moment 0.

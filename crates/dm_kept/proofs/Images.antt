@@ -14,7 +14,8 @@ use Rattle.dm_item.specs.Lawful.{History}
 use Rattle.dm_journal.specs.AtRest.{AtRest, HasJournal, WithOrWithout, journal_name, journal_place}
 use Rattle.dm_journal.proofs.Leaving.{front_left, front_settled}
 use Rattle.dm_kept.specs.Recovery.{Found, Kept, Recovers, Sits, Through, recovered}
-use Rattle.dm_kept.specs.Room.{IsTaken, MayFollow, most_items}
+use Rattle.dm_kept.specs.Room.{IsTaken, MayFollow}
+use Rattle.dm_types.specs.Limits.{most_items}
 use Rattle.dm_kept.specs.Spelled.{AllEntries, Records, bodies_of}
 use Rattle.dm_kept.proofs.Histories.{bodies_push, entries_push, taken_push}
 

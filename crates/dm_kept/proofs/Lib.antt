@@ -2,3 +2,11 @@ pub mod Histories
 pub mod Images
 pub mod Damages
 pub mod Listings
+pub mod Flags
+pub mod FilesKept
+pub mod Lists
+pub mod Entered
+pub mod Ranges
+pub mod Frame
+pub mod Resting
+pub mod Standing

@@ -1,5 +1,7 @@
 pub mod Damage
+pub mod Files
 pub mod Keeping
+pub mod Kept
 pub mod Recovery
 pub mod Room
 pub mod Spelled

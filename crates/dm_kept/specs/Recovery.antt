@@ -5,7 +5,8 @@ use Rattle.dm_disk_model.specs.Disk.{DiskState, Image, MayLeave}
 use Rattle.dm_item.specs.Lawful.{History, items_of, next_id_of}
 use Rattle.dm_journal.specs.AtRest.{AtRest, journal_name}
 use Rattle.dm_kept.specs.Spelled.{AllEntries, Records, bodies_of}
-use Rattle.dm_kept.specs.Room.{IsTaken, most_items}
+use Rattle.dm_kept.specs.Room.{IsTaken}
+use Rattle.dm_types.specs.Limits.{most_items}
 
 -- the items by rising id, and the id that the next item gets
 pub record Found : Type 0 where

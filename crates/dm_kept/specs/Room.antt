@@ -4,10 +4,6 @@ use Rattle.dm_types.specs.declared.entry.Entry.{Entry}
 use Rattle.dm_item.specs.Lawful.{History, IsLawful, left_by}
 use Rattle.dm_item.specs.Listing.{HasRoomFor, Meets}
 
--- no list is longer
-abbrev pub most_items : ℕ
-most_items = 4096
-
 -- each Added found room in a list with this limit, newest entry first
 abbrev pub HadRoomBack : ℕ → List Entry → Type 0
 HadRoomBack limit [] = Unit {0}

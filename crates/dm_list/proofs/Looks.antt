@@ -9,7 +9,7 @@ use Rattle.dm_disk_model.specs.Moments.{LeavesOnly}
 use Rattle.dm_item.specs.Lawful.{History, IsOf, left_by}
 use Rattle.dm_item.specs.Listing.{Listing, item_in}
 use Rattle.dm_kept.specs.Recovery.{Found, Kept, recovered}
-use Rattle.dm_kept.specs.Room.{most_items}
+use Rattle.dm_types.specs.Limits.{most_items}
 use Rattle.dm_kept.proofs.Images.{sits_kept}
 use Rattle.dm_desk.specs.Opening.{IsOpened, OpenLeaves, reopening}
 use Rattle.dm_desk.specs.View.{HoldsOf, View}

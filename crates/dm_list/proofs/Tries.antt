@@ -13,7 +13,7 @@ use Rattle.dm_item.specs.Lawful.{History, next_id_of}
 use Rattle.dm_item.specs.Listing.{Listing, item_in}
 use Rattle.dm_kept.specs.Keeping.{Runs}
 use Rattle.dm_kept.specs.Recovery.{Found, Kept, Through, recovered}
-use Rattle.dm_kept.specs.Room.{most_items}
+use Rattle.dm_types.specs.Limits.{most_items}
 use Rattle.dm_kept.proofs.Images.{sits_kept}
 use Rattle.dm_desk.specs.Add.{AddAnswers, AddDoes, Adds, FirstWith, IsKnown, IsNew, IsOrder, add_tries, added_by}
 use Rattle.dm_desk.specs.Faults.{desk_kind}

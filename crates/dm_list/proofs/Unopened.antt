@@ -5,7 +5,7 @@ use Rattle.dm_disk_model.specs.Moments.{LeavesOnly}
 use Rattle.dm_disk_model.specs.Disk.{History as Clock, Image, MayLeave, now}
 use Rattle.dm_journal.specs.declared.fault.JournalFault.{JournalFault}
 use Rattle.dm_journal.specs.declared.fault.JournalFault.TheVariants as journals
-use Rattle.dm_kept.specs.Room.{most_items}
+use Rattle.dm_types.specs.Limits.{most_items}
 use Rattle.dm_desk.specs.Opening.{Fails, IsUnchanged, OpenLeaves, ReadsDamage, disk_in, fault_of}
 use Rattle.dm_desk.specs.declared.fault.OpenFault.{OpenFault}
 use Rattle.dm_list.specs.Listed.{Listing as Asked, Adds}

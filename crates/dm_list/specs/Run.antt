@@ -6,7 +6,8 @@ use Rattle.dm_item.specs.Lawful.{History, left_by}
 use Rattle.dm_item.specs.Listing.{Listing}
 use Rattle.dm_journal.specs.AtRest.{journal_place}
 use Rattle.dm_kept.specs.Recovery.{Kept, Through, recovered}
-use Rattle.dm_kept.specs.Room.{IsTaken, most_items}
+use Rattle.dm_kept.specs.Room.{IsTaken}
+use Rattle.dm_types.specs.Limits.{most_items}
 use Rattle.dm_kept.specs.Spelled.{Records}
 use Rattle.dm_desk.specs.Opening.{IsRead, IsUnchanged, OnlyBefore, OpenLeaves, ReadsDamage, reopening}
 use Rattle.dm_request.specs.Fault.{IsNoAddress, IsRead as IsAddressOf}

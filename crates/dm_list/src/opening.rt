@@ -2,7 +2,7 @@ ghost use Rattle.std.specs.Prelude.{◌≡◌, false, IfErr, IfOk};
 ghost use Rattle.dm_types.specs.Faults.{NoneFell};
 ghost use Rattle.dm_disk_model.specs.Disk.{now};
 ghost use Rattle.dm_disk_model.specs.Moments.{KeepsFiles, LeavesOnly};
-ghost use Rattle.dm_kept.specs.Room.{most_items};
+ghost use Rattle.dm_types.specs.Limits.{most_items};
 ghost use Rattle.dm_report.specs.Lines.{journal_damaged_line};
 ghost use Rattle.dm_desk.specs.Opening.{IsOpened, OpenLeaves, disk_in, fault_of};
 ghost use Rattle.dm_desk.specs.View.{HoldsOf};
