@@ -3,11 +3,12 @@ use Rattle.std.specs.Prelude.{◌≡◌, ◌≢◌, ℕ, ◌⊎◌, List, [], �
 use Rattle.dm_types.specs.declared.item.Item.{Item}
 use Rattle.dm_types.specs.declared.item.ItemId.{ItemId}
 
--- the word is empty, or no item has it
+-- no item has the word
 abbrev pub HasNoWord : List ℕ → List Item → Type 0
 HasNoWord word [] = Unit {0}
 HasNoWord word (item ∷ rest) = (item.word ≢ word) × HasNoWord word rest
 
+-- the word is empty, or no item has it
 abbrev pub IsFreeWord : List ℕ → List Item → Type 0
 IsFreeWord [] items = Unit {0}
 IsFreeWord (byte ∷ rest) items = HasNoWord (byte ∷ rest) items

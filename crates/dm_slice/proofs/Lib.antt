@@ -7,3 +7,4 @@ pub mod Placed
 pub mod Sums
 pub mod Ends
 pub mod Rounds
+pub mod Gaps

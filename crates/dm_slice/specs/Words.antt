@@ -30,10 +30,8 @@ abbrev pub IsFull : ℕ → List Slice → Type 0
 IsFull total slices = (place : ℕ) → place < total → HasByte slices place
 
 -- the first place below the total that isn't there
-pub record IsFirstMissing (total : ℕ) (slices : List Slice) (place : ℕ) : Type 0 where
-  pub below : place < total
-  pub missing : ¬ HasByte slices place
-  pub before : IsFull place slices
+abbrev pub IsFirstMissing : ℕ → List Slice → ℕ → Type 0
+IsFirstMissing total slices place = IsGap slices 0 total place
 
 -- no slice ends above the bound
 abbrev pub IsWithin : ℕ → List Slice → Type 0

@@ -148,6 +148,7 @@ impl Cover {
     /// which continues its last slice; none where that is its end.
     pub fn plan_open(&mut self) -> Result<Plan, NoMemory>
         ensures plan { IfOk result (IsPlannedOpen self.old self.new) }
+        ensures fills { IfOk result (FillsHoles (2 ^ 40) self.old) }
         ensures grows { IfOk result (AreAtSlices self.new) }
         ensures places { SamePlaces self.new self.old }
         ensures err { OnErr result (self.new ≡ self.old) }
@@ -273,6 +274,7 @@ fn planned_open(alloc: Global, slices: &[Slice]) -> Result<(Vec<Slice>, Vec<Part
     requires cover { IsCover slices.now }
     requires most { length slices.now ≤ 64 }
     ensures plan { IfOk result (λ both. IsPlannedOpen slices.now both.0.items both.1.items) }
+    ensures fills { IfOk result (λ both. FillsHoles (2 ^ 40) slices.now both.1.items) }
     ensures grows { IfOk result (λ both. AreAtSlices both.0.items both.1.items) }
     ensures places { IfOk result (λ both. SamePlaces both.0.items slices.now) }
     ensures cover { IfOk result (λ both. IsCover both.0.items) }

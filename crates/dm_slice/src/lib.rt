@@ -8,6 +8,3 @@ mod words;
 pub use cover::{Cover, MOST_BYTES, is_cover_within};
 pub use plan::{Part, Plan};
 pub use words::{cover_end, covered, has_byte, holds, is_full, is_normal, is_within};
-
-#[cfg(test)]
-mod tests;

@@ -1,6 +1,8 @@
 ghost use Rattle.dm_slice.specs.Words.{IsWithin};
 
-use crate::*;
+use dm_slice::{
+    Cover, MOST_BYTES, Part, cover_end, covered, has_byte, holds, is_full, is_normal, is_within,
+};
 use dm_types::{Slice, Slices};
 use std::alloc::Global;
 use std::process::Abort;
