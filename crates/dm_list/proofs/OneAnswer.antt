@@ -7,7 +7,8 @@ use Rattle.dm_types.specs.declared.item.ItemId.{ItemId}
 use Rattle.dm_item.specs.Lawful.{History}
 use Rattle.dm_item.specs.Words.{HasNoWord, IsFreeWord}
 use Rattle.dm_item.specs.Listing.{HasRoom, Listing, item_in}
-use Rattle.dm_desk.specs.Add.{FirstWith, IsFull, IsKnown, IsNew, IsOther, added_by}
+use Rattle.dm_desk.proofs.Orders.{free_not, one_id}
+use Rattle.dm_desk.specs.Add.{HasItem, IsFull, IsKnown, IsNew, IsOther, added_by}
 use Rattle.dm_desk.specs.declared.order.Order.{Order}
 use Rattle.dm_request.specs.declared.address.AddressFault.{AddressFault}
 use Rattle.dm_report.specs.Texts.{item_line_of, item_text_of}
@@ -25,24 +26,7 @@ shown_one : (id : ℕ) (item : Option Item) (first second : ListEnding) → IsAn
 shown_one id None first second is is' says says' = told NoItem (no_item_line id) first is says ∙ sym (told NoItem (no_item_line id) second is' says')
 shown_one id (Some item) first second is is' says says' = told Said (item_text_of item) first is says ∙ sym (told Said (item_text_of item) second is' says')
 
--- the first item with a word is one
-first_both : (word : List ℕ) (P Q : Item → Type 0) (R : Type 0) → ((item : Item) → P item → Q item → R) → (items : List Item) → FirstWith word P items → FirstWith word Q items → R
-first_both word P Q R leads [] here there = absurd here
-first_both word P Q R leads (item ∷ rest) (inl here) (inl there) = leads item here.1 there.1
-first_both word P Q R leads (item ∷ rest) (inl here) (inr there) = absurd (there.0 here.0)
-first_both word P Q R leads (item ∷ rest) (inr here) (inl there) = absurd (here.0 there.0)
-first_both word P Q R leads (item ∷ rest) (inr here) (inr there) = first_both word P Q R leads rest here.1 there.1
-
-none_not : (word : List ℕ) (P : Item → Type 0) (items : List Item) → HasNoWord word items → FirstWith word P items → ⊥
-none_not word P [] none first = first
-none_not word P (item ∷ rest) none (inl first) = none.0 first.0
-none_not word P (item ∷ rest) none (inr later) = none_not word P rest none.1 later.1
-
--- a free word is no item's
-free_not : (word : List ℕ) (P : Item → Type 0) (items : List Item) → IsFreeWord word items → word ≢ [] → FirstWith word P items → ⊥
-free_not [] P items free some first = some refl
-free_not (byte ∷ rest) P items free some first = none_not (byte ∷ rest) P items free first
-
+-- a list with room is not full
 room_not : (items : Listing) → HasRoom items → IsFull items → ⊥
 room_not items has full =
     ⊎_elim (λ (many : items.limit ≤ length items.items). let few = has.room in omega arith) (λ (last : items.next ≡ 4294967295). let less = has.number in omega arith) full
@@ -90,35 +74,36 @@ module _ (items : Listing) (order : Order) (at : ℕ) where
 
   module _ (first second : ListEnding) (more other : History) where
     new_same : New first more → Same second other → ⊥
-    new_same a b = free_not order.word (λ item. (item.id ≡ b.id) × (item.first_address ≡ order.address.text)) items.items a.fits.free b.known.some b.known.item
+    new_same a b = free_not order.word items.items b.id (λ item. item.first_address ≡ order.address.text) a.fits.free b.known
 
     new_theirs : New first more → Theirs second other → ⊥
-    new_theirs a b = free_not order.word (λ item. (item.id ≡ b.id) × (item.first_address ≢ order.address.text)) items.items a.fits.free b.other.some b.other.item
+    new_theirs a b = free_not order.word items.items b.id (λ item. item.first_address ≢ order.address.text) a.fits.free b.other
+
+    -- one item has the word
+    one_item : (x y : ItemId) (P Q : Item → Type 0) → (first : HasItem items.items order.word x P) → (second : HasItem items.items order.word y Q) → first.item ≡ second.item
+    one_item x y P Q first second =
+        same_Some first.item second.item (sym first.there ∙ ap (λ (id : ItemId). item_in id.0 items.items) (one_id items.items order.word x y P Q first second) ∙ second.there)
 
     same_theirs : Same first more → Theirs second other → ⊥
     same_theirs a b =
-        first_both order.word (λ item. (item.id ≡ a.id) × (item.first_address ≡ order.address.text)) (λ item. (item.id ≡ b.id) × (item.first_address ≢ order.address.text)) ⊥
-        (λ item p q. q.1 p.1) items.items a.known.item b.other.item
+        let one : a.known.item ≡ b.other.item = one_item a.id b.id (λ item. item.first_address ≡ order.address.text) (λ item. item.first_address ≢ order.address.text) a.known b.other in
+        b.other.is (sym (ap (λ (item : Item). item.first_address) one) ∙ a.known.is)
 
     same_full : Same first more → NoRoom second other → ⊥
-    same_full a b = free_not order.word (λ item. (item.id ≡ a.id) × (item.first_address ≡ order.address.text)) items.items b.free a.known.some a.known.item
+    same_full a b = free_not order.word items.items a.id (λ item. item.first_address ≡ order.address.text) b.free a.known
 
     theirs_full : Theirs first more → NoRoom second other → ⊥
-    theirs_full a b = free_not order.word (λ item. (item.id ≡ a.id) × (item.first_address ≢ order.address.text)) items.items b.free a.other.some a.other.item
+    theirs_full a b = free_not order.word items.items a.id (λ item. item.first_address ≢ order.address.text) b.free a.other
 
     both_same : Same first more → Same second other → IsOneAnswer first second more other
     both_same a b =
-        let ids : a.id ≡ b.id =
-        first_both order.word (λ item. (item.id ≡ a.id) × (item.first_address ≡ order.address.text)) (λ item. (item.id ≡ b.id) × (item.first_address ≡ order.address.text)) (a.id ≡ b.id)
-        (λ item p q. sym p.0 ∙ q.0) items.items a.known.item b.known.item in
+        let ids : a.id ≡ b.id = one_id items.items order.word a.id b.id (λ item. item.first_address ≡ order.address.text) (λ item. item.first_address ≡ order.address.text) a.known b.known in
         let one : a.item ≡ b.item = same_Some a.item b.item (sym a.here ∙ ap (λ (id : ItemId). item_in id.0 items.items) ids ∙ b.here) in
         record { ending = a.is ∙ ap (λ (item : Item). Said (item_line_of item)) one ∙ sym b.is; entries = a.entries ∙ sym b.entries }
 
     both_theirs : Theirs first more → Theirs second other → IsOneAnswer first second more other
     both_theirs a b =
-        let ids : a.id ≡ b.id =
-        first_both order.word (λ item. (item.id ≡ a.id) × (item.first_address ≢ order.address.text)) (λ item. (item.id ≡ b.id) × (item.first_address ≢ order.address.text)) (a.id ≡ b.id)
-        (λ item p q. sym p.0 ∙ q.0) items.items a.other.item b.other.item in
+        let ids : a.id ≡ b.id = one_id items.items order.word a.id b.id (λ item. item.first_address ≢ order.address.text) (λ item. item.first_address ≢ order.address.text) a.other b.other in
         record { ending = a.is ∙ ap (λ (id : ItemId). OtherWord (word_taken_line id.0)) ids ∙ sym b.is; entries = a.entries ∙ sym b.entries }
 
   compared : (first second : ListEnding) (more other : History) → Answer first more → Answer second other → IsOneAnswer first second more other

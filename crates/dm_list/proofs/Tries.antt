@@ -15,7 +15,7 @@ use Rattle.dm_kept.specs.Keeping.{Runs}
 use Rattle.dm_kept.specs.Recovery.{Found, Kept, Through, recovered}
 use Rattle.dm_types.specs.Limits.{most_items}
 use Rattle.dm_kept.proofs.Images.{sits_kept}
-use Rattle.dm_desk.specs.Add.{AddAnswers, AddDoes, Adds, FirstWith, IsKnown, IsNew, IsOrder, add_tries, added_by}
+use Rattle.dm_desk.specs.Add.{AddAnswers, AddDoes, Adds, IsKnown, IsNew, IsOrder, add_tries, added_by}
 use Rattle.dm_desk.specs.Faults.{desk_kind}
 use Rattle.dm_desk.specs.Opening.{IsOpened, OpenLeaves, reopening}
 use Rattle.dm_desk.specs.View.{HoldsOf, View}
@@ -44,22 +44,8 @@ record IsThere (id : ℕ) (items : List Item) : Type 0 where
   item : Item
   here : item_in id items ≡ Some item
 
-is_same : (a b : ℕ) → a ≡ b → (a == b) ≡ true
-is_same a b same = grind (arith, nat_tests)
-
-there_later : (item : Item) (id : ℕ) (rest : List Item) (b : Bool) → (item.id.0 == id) ≡ b → IsThere id rest → IsThere id (item ∷ rest)
-there_later item id rest true is later = record { item = item; here = ap (λ (b : Bool). cond b (Some item) (item_in id rest)) is }
-there_later item id rest false is later = record { item = later.item; here = ap (λ (b : Bool). cond b (Some item) (item_in id rest)) is ∙ later.here }
-
-found_there : (word address : List ℕ) (id : ItemId) (items : List Item) → FirstWith word (λ item. (item.id ≡ id) × (item.first_address ≡ address)) items → IsThere id.0 items
-found_there word address id [] first = absurd first
-found_there word address id (item ∷ rest) (inl first) =
-    let same : item.id.0 ≡ id.0 = ap (λ (i : ItemId). i.0) first.1.0 in
-    record { item = item; here = ap (λ (b : Bool). cond b (Some item) (item_in id.0 rest)) (is_same item.id.0 id.0 same) }
-found_there word address id (item ∷ rest) (inr later) = there_later item id.0 rest (item.id.0 == id.0) refl (found_there word address id rest later.1)
-
 known_there : (items : List Item) (order : Order) (id : ItemId) → IsKnown items order id → IsThere id.0 items
-known_there items order id known = found_there order.word order.address.text id items known.item
+known_there items order id known = record { item = known.item; here = known.there }
 
 -- the ending on the items of a desk
 pub ends_at : (seen items : Listing) (result : Result Taken DeskFault) (ending : ListEnding) → seen ≡ items → AddEnds seen.items result ending → AddEnds items.items result ending

@@ -18,8 +18,10 @@ pub struct Outside {
     pub connect: Option<NetFault>,
     /// Which call of each wire fails, sends and receives counted together from 0, and how.
     pub wire: Option<(u64, WireFault)>,
-    /// Which write to the output fails.
+    /// Which write to standard output fails.
     pub out: Option<u64>,
+    /// Which write to standard error fails.
+    pub errs: Option<u64>,
     /// Each receive gives one byte.
     pub by_byte: bool,
 }
@@ -29,6 +31,7 @@ impl Outside {
         connect: None,
         wire: None,
         out: None,
+        errs: None,
         by_byte: false,
     };
 }
@@ -195,7 +198,7 @@ pub fn run(
     let words = texts(alloc, words)?;
     let mut net = net(alloc, streams, outside)?;
     let mut out = output(alloc, outside.out)?;
-    let mut errs = output(alloc, None)?;
+    let mut errs = output(alloc, outside.errs)?;
     let ran = start(alloc, &words, disk, &mut net, &mut out, &mut errs)?;
     collect(alloc, ran, &net, &out, &errs)
 }

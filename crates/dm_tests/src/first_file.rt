@@ -149,15 +149,28 @@ fn each_failing_call_of_the_wire_is_told(rt: HostRuntime) -> Result<(), Fail> {
 }
 
 #[test]
-fn a_failing_output_has_status_7(rt: HostRuntime) -> Result<(), Fail> {
+fn a_failing_write_has_status_7(rt: HostRuntime) -> Result<(), Fail> {
     let alloc = rt.alloc();
-    let outside = Outside {
+    let out = Outside {
         out: Some(0),
         ..Outside::SOUND
     };
-    let mut ran = run(alloc, WORDS, &[HELLO], disk(alloc, None)?, outside)?;
-    assert!(rt; is_printed(&ran, 7, b"", b""));
-    assert!(rt; is_safe(alloc, &mut ran)?);
+    let errs = Outside {
+        errs: Some(0),
+        ..Outside::SOUND
+    };
+    let not_found: &[u8] = b"HTTP/1.1 404 Not Found\r\n\r\n";
+    // What was to be said on the one output, and what fails is the other: the status is the command's own.
+    let rows: &[(&[u8], Outside, u8, &[u8])] = &[
+        (HELLO, out, 7, b""),
+        (not_found, errs, 7, b""),
+        (HELLO, errs, 0, LINE),
+    ];
+    for (stream, outside, status, said) in rows {
+        let mut ran = run(alloc, WORDS, &[*stream], disk(alloc, None)?, *outside)?;
+        assert!(rt; is_printed(&ran, *status, said, b""));
+        assert!(rt; is_safe(alloc, &mut ran)?);
+    }
     Ok(())
 }
 
@@ -168,6 +181,20 @@ fn refused_words_do_nothing(rt: HostRuntime) -> Result<(), Fail> {
         (&[], b"bad words\n"),
         (&[b"get"], b"bad words\n"),
         (&[b"get", b"http://h/a"], b"bad words\n"),
+        (
+            &[b"get", b"--slices", b"1", b"--name", b"a", b"http://h/a"],
+            b"bad words\n",
+        ),
+        (
+            &[b"get", b"--word", b"w", b"--name", b"a", b"http://h/a"],
+            b"bad words\n",
+        ),
+        (&[b"get", b"--name", b"a/b", b"http://h/a"], b"bad words\n"),
+        (&[b"add", b"--name", b"a/b", b"http://h/a"], b"bad words\n"),
+        (&[b"resume", b"1"], b"bad words\n"),
+        (&[b"pause", b"1"], b"bad words\n"),
+        (&[b"cancel", b"1"], b"bad words\n"),
+        (&[b"remove", b"1"], b"bad words\n"),
         (&[b"get", b"--name", b"a", b"ftp://x/a"], b"bad address\n"),
         (&[b"get", b"--name", b"a", b"http://u@h/"], b"bad address\n"),
     ];
