@@ -14,4 +14,3 @@ pub mod Readied
 pub mod Applied
 pub mod Restarts
 pub mod Gone
-pub mod Ranges
