@@ -2,7 +2,7 @@
 use Rattle.std.proofs.Common.{◌≡◌, ◌≢◌, ◌⊎◌, inl, inr, ⊎_elim, ℕ, List, [], Option, Some, None, refl, sym, ◌∙◌, ap, subst}
 use Rattle.std.proofs.lemmas.Option.{same_Some}
 use Rattle.dm_disk_model.specs.File.{File, FileLeaves, empty_file, settled_file}
-use Rattle.dm_disk_model.specs.Folder.{Folder, Names, Contents, Created, Renamed, Removed, FolderLeaves, NameLeaves, FileSteps, Creates, Changes, EachPrefix, after_changes, with_name, names_of, names_after}
+use Rattle.dm_disk_model.specs.Folder.{Folder, Names, Created, Renamed, Removed, FolderLeaves, NameLeaves, FileSteps, Creates, Changes, EachPrefix, after_changes, with_name, names_of, names_after}
 use Rattle.dm_disk_model.specs.Disk.{DiskState, Image, MayLeave, IsSoundDisk}
 use Rattle.dm_disk_model.proofs.Beside.{HadUnder, had_leaves}
 use Rattle.dm_disk_model.proofs.PendingNames.{each_now, each_more, names_more, with_name_same, with_name_other}

@@ -1,5 +1,5 @@
 -- What the journal's calls leave of the other places of its folder.
-use Rattle.std.proofs.Common.{◌≡◌, ◌≢◌, ℕ, List, None, Result, Ok, Err, OnOk, sym, ◌∙◌, ap}
+use Rattle.std.proofs.Common.{◌≡◌, None, Result, Ok, Err, OnOk, sym, ◌∙◌, ap}
 use Rattle.dm_disk_model.specs.declared.place.Area.TheVariants.{State}
 use Rattle.dm_disk_model.specs.declared.place.Place.{Place}
 use Rattle.dm_disk_model.specs.declared.place.DiskFault.{DiskFault}

@@ -1,10 +1,10 @@
 -- How a journal is started: what each moment leaves, and what stands in between.
-use Rattle.std.specs.Prelude.{◌≡◌, ◌≢◌, ◌⊎◌, ℕ, List, [], ◌∷◌, ◌++◌, codes, Option, Some, None, Result, Ok, Err}
+use Rattle.std.specs.Prelude.{◌≡◌, ◌≢◌, ◌⊎◌, ℕ, List, [], ◌∷◌, ◌++◌, codes, Some, None, Result, Ok, Err}
 use Rattle.dm_disk_model.specs.declared.place.Area.TheVariants.{State}
 use Rattle.dm_disk_model.specs.declared.place.Place.{Place}
 use Rattle.dm_disk_model.specs.declared.place.DiskFault.{DiskFault}
 use Rattle.dm_disk_model.specs.File.{File, settled_file}
-use Rattle.dm_disk_model.specs.Folder.{Folder, EachPrefix, names_of}
+use Rattle.dm_disk_model.specs.Folder.{EachPrefix, names_of}
 use Rattle.dm_disk_model.specs.Moments.{Throughout, Reached}
 use Rattle.dm_disk_model.specs.Disk.{DiskState, Image, History, MayLeave, bytes_at, now}
 use Rattle.dm_disk_model.proofs.Beside.{HadUnder}

@@ -1,5 +1,5 @@
 // The journal's text, as far as it was read.
-ghost use Rattle.std.specs.Prelude.{◌≡◌, ◌+◌, ◌++◌, ℕ, ◌≤◌, List, length, MatchOption, IfOk};
+ghost use Rattle.std.specs.Prelude.{◌≡◌, ◌+◌, ◌++◌, ◌≤◌, length, MatchOption, IfOk};
 ghost use Rattle.dm_journal.specs.Text.{HasNoHeader, header};
 ghost use Rattle.dm_journal.specs.Taking.{TakesCells};
 

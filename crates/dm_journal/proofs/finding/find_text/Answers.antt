@@ -1,7 +1,6 @@
-use Rattle.std.proofs.Common.{◌≡◌, List, ℕ, Option, Some, sym, ◌∙◌, subst}
+use Rattle.std.proofs.Common.{◌≡◌, Some, sym, ◌∙◌, subst}
 use Rattle.dm_disk_model.specs.declared.place.Place.{Place}
 use Rattle.dm_disk_model.specs.Disk.{History, bytes_at, now}
-use Rattle.dm_journal.specs.AtRest.{journal_place}
 use Rattle.dm_journal.specs.Reading.{IsDurable}
 use Rattle.dm_journal.proofs.Telling.{found_text, fault_text}
 use Rattle.dm_journal.proofs.finding.find_text.Goals as goal

@@ -1,4 +1,4 @@
-use Rattle.std.proofs.Common.{◌≡◌, ◌+◌, ◌^◌, ◌++◌, ℕ, List, [], length, drop, Some, refl, sym, ◌∙◌, ap, subst, arith, length-drop}
+use Rattle.std.proofs.Common.{◌≡◌, ◌+◌, ◌^◌, ◌++◌, ℕ, List, length, drop, Some, refl, sym, ◌∙◌, ap, subst, arith, length-drop}
 use Rattle.dm_disk_model.specs.Disk.{History, now, bytes_at}
 use Rattle.dm_journal.specs.Text.{AllFit, front}
 use Rattle.dm_journal.specs.Taking.{TakesCells, EndsSo}

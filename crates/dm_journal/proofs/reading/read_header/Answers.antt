@@ -1,4 +1,4 @@
-use Rattle.std.proofs.Common.{◌≡◌, inl, ℕ, List, [], length, Some, refl, sym, ◌∙◌, ap, subst, arith}
+use Rattle.std.proofs.Common.{◌≡◌, inl, [], length, Some, refl, sym, ◌∙◌, ap, subst, arith}
 use Rattle.dm_disk_model.specs.Disk.{History, now, bytes_at}
 use Rattle.dm_journal.proofs.Fronts.{nothing_read, no_header, short_file, header_front}
 use Rattle.dm_journal.proofs.reading.read_header.Goals as goal

@@ -3,7 +3,6 @@ use Rattle.dm_journal.specs.Text.{header}
 use Rattle.dm_journal.specs.AtRest.{AtRest}
 use Rattle.dm_disk_model.specs.Disk.{now}
 use Rattle.dm_journal.proofs.Others.{two_then}
-use Rattle.dm_journal.proofs.Beginning.{blank_text}
 use Rattle.dm_journal.proofs.Starts.{start_before, ends_failed}
 use Rattle.dm_journal.proofs.starting.start_blank.Goals as goal
 
