@@ -64,17 +64,27 @@ fn is_alone(names: &NameList, name: &[u8]) -> bool {
 
 #[test]
 fn a_rename_replaces_in_the_state_folder(rt: HostRuntime) -> Result<(), Fail> {
-    let path = new_folder(rt, "names")?;
+    let path = new_folder(rt, "replaced")?;
     let mut disk = disk_in(rt, path.as_str())?;
     let part = place(rt.alloc(), Area::State, b"a part")?;
-    let name = place(rt.alloc(), Area::State, "\u{20ac}.txt".as_bytes())?;
+    let name = place(rt.alloc(), Area::State, b"name")?;
     disk.create(&name)?;
     assert!(rt; rename(&mut disk, &part, &name)?.is_none());
-    match disk.names(rt.alloc(), Area::State) {
+    assert!(rt; disk.length(&name)? == Some(12));
+    fs::remove_dir_all(&rt, path.as_str())?;
+    Ok(())
+}
+
+#[test]
+fn names_are_listed(rt: HostRuntime) -> Result<(), Fail> {
+    let path = new_folder(rt, "names")?;
+    let mut disk = disk_in(rt, path.as_str())?;
+    let name = file(rt.alloc(), "\u{20ac}.txt".as_bytes())?;
+    disk.create(&name)?;
+    match disk.names(rt.alloc(), Area::Files) {
         Ok(names) => assert!(rt; is_alone(&names, name.name.bytes())),
         Err(fault) => Err(fault)?,
     }
-    assert!(rt; disk.length(&name)? == Some(12));
     disk.remove(&name)?;
     assert!(rt; disk.length(&name)?.is_none());
     fs::remove_dir_all(&rt, path.as_str())?;
@@ -90,19 +100,35 @@ fn is_kept(disk: &mut Here, part: &Place, name: &Place) -> Result<bool, DiskFaul
     Ok(is_refused && is_same)
 }
 
+/// The same onto a file, and then onto a free name.
+fn is_kept_until_free(disk: &mut Here, part: &Place, name: &Place) -> Result<bool, DiskFault> {
+    write(disk, part)?;
+    disk.create(name)?;
+    let is_file_kept = is_kept(disk, part, name)?;
+    disk.rename(part, name)?;
+    Ok(is_file_kept && disk.length(name)? == Some(12))
+}
+
 #[test]
-fn a_rename_among_the_files_replaces_nothing(rt: HostRuntime) -> Result<(), Fail> {
+fn a_rename_among_the_files_replaces_no_file(rt: HostRuntime) -> Result<(), Fail> {
     let path = new_folder(rt, "standing")?;
     let mut disk = disk_in(rt, path.as_str())?;
     let part = file(rt.alloc(), b"a part")?;
     let name = file(rt.alloc(), b"name")?;
+    assert!(rt; is_kept_until_free(&mut disk, &part, &name)?);
+    fs::remove_dir_all(&rt, path.as_str())?;
+    Ok(())
+}
+
+#[test]
+fn a_rename_among_the_files_replaces_no_link(rt: HostRuntime) -> Result<(), Fail> {
+    let path = new_folder(rt, "linked")?;
+    let mut disk = disk_in(rt, path.as_str())?;
+    let part = file(rt.alloc(), b"a part")?;
+    let name = file(rt.alloc(), b"name")?;
     write(&mut disk, &part)?;
-    disk.create(&name)?;
-    assert!(rt; is_kept(&mut disk, &part, &name)?);
     link(rt, path.as_str(), "nowhere", "name")?;
     assert!(rt; is_kept(&mut disk, &part, &name)?);
-    disk.rename(&part, &name)?;
-    assert!(rt; disk.length(&name)? == Some(12));
     fs::remove_dir_all(&rt, path.as_str())?;
     Ok(())
 }
