@@ -1,0 +1,4 @@
+pub mod Lives
+pub mod Keeping
+pub mod Breaking
+pub mod Passing

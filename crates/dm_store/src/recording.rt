@@ -1,0 +1,124 @@
+ghost use Rattle.std.specs.Prelude.{◌≡◌, ◌≢◌, ◌+◌, ℕ, false, Some, IsSome, IsTrue, OnOk};
+ghost use Rattle.dm_types.specs.Faults.{HasCause};
+ghost use Rattle.dm_types.specs.declared.entry.Entry.TheVariants as entries;
+ghost use Rattle.dm_types.specs.declared.reason.Reason.TheVariants as reasons;
+ghost use Rattle.dm_disk_model.specs.Moments.{KeepsFiles};
+ghost use Rattle.dm_record.specs.Limits.{IsEntry};
+ghost use Rattle.dm_record.specs.Spelling.{spelling_of};
+ghost use Rattle.dm_item.specs.Listing.{Admits, Listing};
+ghost use Rattle.dm_item.specs.Ready.{IsReady};
+ghost use Rattle.dm_journal.specs.Text.{FitsCell};
+ghost use Rattle.dm_store.specs.Becomes.{RecordMakes, kind_is};
+ghost use Rattle.dm_store.specs.Keeps.{Keeps, RecordGoes, StandBehind, StaysNear};
+ghost use Rattle.dm_store.specs.Lives.{AreAfter, life_in, is_plain, lives_after, without_life};
+ghost use Rattle.dm_store.specs.Origin.{said_of};
+ghost use Rattle.dm_store.specs.Store.{HasRoomBehind, HasRoomOf, IsStore, KeepsRoom, view_of};
+
+use crate::{Life, Store};
+use dm_disk_model::Disk;
+use dm_edge::Origin;
+use dm_item::Items;
+use dm_record::write_broke;
+use dm_types::{DiskKind, Entry, Item, ItemId, Reason};
+
+/// Records an entry that adds no item, begins no attempt and saves no bytes: first in the journal, and
+/// then in the list. It takes no memory, since what the list wants of it was made ready before. Where the
+/// journal fails the desk is broken, and keeps the entry apart.
+pub fn record<D: Disk, O: Origin>(
+    store: &mut Store<D, O>,
+    entry: Entry,
+    body: &[u8],
+    item: Option<Item>,
+) -> Result<(), DiskKind>
+    requires store { IsStore D.tells D.history store.old }
+    requires whole { store.old.broken ≡ false }
+    requires plain { IsTrue (is_plain entry) }
+    requires is { IsEntry entry }
+    requires body { body.now ≡ spelling_of entry }
+    requires size { FitsCell body.now }
+    requires taken { Admits store.old.items entry }
+    requires ready { IsReady store.old.items entry item }
+    requires stand { D.tells → StandBehind D.history (view_of store.old) entry }
+    requires lives { AreAfter entry store.old.items store.old.lives.items }
+    requires room { HasRoomBehind 0 entry store.old }
+    ensures store { IsStore D.tells D.history store.new }
+    ensures goes { RecordGoes D.tells D.history (λ o. said_of (O.says o)) (view_of store.old) (view_of store.new) entry }
+    ensures makes { RecordMakes (view_of store.old) (view_of store.new) entry result }
+    ensures room { OnOk result (KeepsRoom entry store.old store.new) }
+    ensures beside { D.tells → KeepsFiles (D.history store.old.disk) (D.history store.new.disk) }
+    ensures cause { HasCause kind_is (D.faults store.old.disk) (D.faults store.new.disk) result }
+    ensures far { StaysNear (D.far store.old.disk) (D.far store.new.disk) (view_of store.old) (view_of store.new) }
+{
+    match store.journal.append(&mut store.disk, body) {
+        Ok(()) => {
+            store.items.put(&entry, item);
+            follow(&mut store.lives, &entry);
+            store.list.push_reserved(entry);
+            Ok(())
+        }
+        Err(fault) => {
+            store.broken = true;
+            put_failed(&mut store.failed, entry);
+            Err(fault.0)
+        }
+    }
+}
+
+/// Keeps the entry that failed.
+fn put_failed(failed: &mut Option<Entry>, entry: Entry)
+    ensures { failed.new ≡ Some entry }
+{
+    *failed = Some(entry);
+}
+
+/// Ends the attempt that an entry ends.
+fn follow(lives: &mut Vec<Life>, entry: &Entry)
+    requires { IsTrue (is_plain entry.now) }
+    ensures { (items : Listing) → lives.new.items ≡ lives_after entry.now items lives.old.items }
+{
+    match entry {
+        Entry::Broke { id, .. } => drop_life(lives, *id),
+        Entry::Paused { id } => drop_life(lives, *id),
+        Entry::Cancelled { id } => drop_life(lives, *id),
+        Entry::Finishing { id, .. } => drop_life(lives, *id),
+        Entry::Removed { id } => drop_life(lives, *id),
+        Entry::Archived { id } => drop_life(lives, *id),
+        Entry::Described { .. } => {}
+        Entry::Restarted { .. } => {}
+        Entry::Done { .. } => {}
+        Entry::Asked { .. } => {}
+        Entry::Added { .. } => unreachable!(),
+        Entry::Began { .. } => unreachable!(),
+        Entry::Progress { .. } => unreachable!(),
+        Entry::Reopened { .. } => unreachable!(),
+        Entry::Restored { .. } => unreachable!(),
+    }
+}
+
+fn drop_life(lives: &mut Vec<Life>, id: ItemId)
+    ensures { lives.new.items ≡ without_life id.0 lives.old.items }
+{
+    lives.retain(|life| life.id.0 != id.0);
+}
+
+/// Interrupts an item that runs. It takes no memory.
+pub fn interrupt<D: Disk, O: Origin>(
+    store: &mut Store<D, O>,
+    id: ItemId,
+    reason: Reason,
+) -> Result<(), DiskKind>
+    requires store { IsStore D.tells D.history store.old }
+    requires whole { store.old.broken ≡ false }
+    requires lives { IsSome (life_in id.0 store.old.lives.items) }
+    requires reason { (reason ≢ reasons.UserCanceled) × (reason ≢ reasons.Crash) }
+    ensures store { IsStore D.tells D.history store.new }
+    ensures keeps { Keeps D.tells D.history (λ o. said_of (O.says o)) (view_of store.old) (view_of store.new) }
+    ensures makes { RecordMakes (view_of store.old) (view_of store.new) (entries.Broke id reason) result }
+    ensures room { OnOk result ((count : ℕ) → HasRoomOf count store.old → HasRoomOf (count + 2) store.new) }
+    ensures beside { D.tells → KeepsFiles (D.history store.old.disk) (D.history store.new.disk) }
+    ensures cause { HasCause kind_is (D.faults store.old.disk) (D.faults store.new.disk) result }
+    ensures far { StaysNear (D.far store.old.disk) (D.far store.new.disk) (view_of store.old) (view_of store.new) }
+{
+    let body = write_broke(id, reason);
+    record(store, Entry::Broke { id, reason }, &body, None)
+}
