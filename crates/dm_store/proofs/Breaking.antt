@@ -1,6 +1,7 @@
 -- What is kept where an attempt is interrupted.
 use Rattle.std.proofs.Common.{◌≡◌, ◌≢◌, ℕ, ◌+◌, ◌*◌, ◌≤◌, Bool, true, false, ◌||◌, IsTrue, List, [], ◌∷◌, ◌++◌, length, Option, Some, None, refl, sym, ◌∙◌, ap, subst, arith}
 use Rattle.std.specs.Prelude.{IsSome, OnOk, Result, Ok, Err}
+use Rattle.std.proofs.lemmas.Bool.{false≢true}
 use Rattle.dm_types.specs.declared.entry.Entry.TheVariants as entries
 use Rattle.dm_types.specs.declared.item.Item.{Item}
 use Rattle.dm_types.specs.declared.item.ItemId.{ItemId}
@@ -35,7 +36,7 @@ running_or (phases.Interrupted reason) is = is
 
 row_of_one : (id : ItemId) (reason : Reason) (items : List Item) (found : Option Item) → IsSome found → ((item : Item) → found ≡ Some item → IsTrue (is_running item.phase)) → (reason ≢ reasons.UserCanceled) × (reason ≢ reasons.Crash)
     → Row (entries.Broke id reason) items found
-row_of_one id reason items None some runs allowed = absurd some
+row_of_one id reason items None some runs allowed = absurd (false≢true some)
 row_of_one id reason items (Some item) some runs allowed = (running_or item.phase (runs item refl), allowed)
 
 module _ {D O : Type 0} (tells : Type 0) (clock : D → Clock) (says : O → Says) (desk : View D O) (id : ItemId) (reason : Reason) (is : IsDesk tells clock desk) (whole : desk.broken ≡ false) (some : IsSome (life_in id.0 desk.lives)) where

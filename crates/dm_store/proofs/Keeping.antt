@@ -34,7 +34,7 @@ use Rattle.dm_kept.proofs.Histories.{entries_push, follows_more}
 use Rattle.dm_kept.proofs.Listings.{follows_of, limit_applied}
 use Rattle.dm_kept.proofs.Resting as resting
 use Rattle.dm_store.specs.declared.life.Life.{Life}
-use Rattle.dm_store.specs.Keeps.{Allows, Founded, Goes, HoldsOf, IsDesk, Keeps, RecordGoes, RestsBy, SoFar, StandBehind, StaysNear, added}
+use Rattle.dm_store.specs.Keeps.{Allows, Founded, Goes, HoldsOf, IsDesk, Keeps, RecordGoes, RestsBy, SoFar, StandBehind, added}
 use Rattle.dm_store.specs.Lives.{AreAfter, AreBounded, AreLives, covers_of, is_plain, lives_after}
 use Rattle.dm_store.specs.View.{View, spelled}
 use Rattle.dm_store.proofs.Lives.{bounded_after}
@@ -189,18 +189,13 @@ module _ {D O : Type 0} (tells : Type 0) (clock : D → Clock) (says : O → Say
     bounded = bound_same new.lives (subst (AreBounded (old.limits.checkpoint + old.limits.piece)) (sym lives) is.bounded);
   }
 
--- The count of far writes, of an entry that was recorded or failed.
-pub near_one : {D O : Type 0} (old new : View D O) (entry : Entry) (body : List ℕ) (far far' : ℕ) → added old new ++ new.failed ≡ entry ∷ [] → body ≡ spelling_of entry → (old.gate + (6 + length body) ≤ 2 ^ 62 → far' ≡ far) → StaysNear far far' old new
-near_one old new entry body far far' tried is near short =
-    let size : spelled (added old new ++ new.failed) ≡ (5 + length (spelling_of entry)) + 0 = ap spelled tried in
+-- The count of far writes stays, where one entry was recorded or failed.
+pub near_one : (gate : ℕ) (list longer failed : History) (entry : Entry) (body : List ℕ) (far far' : ℕ) → drop (length list) longer ++ failed ≡ entry ∷ [] → body ≡ spelling_of entry → (gate + (6 + length body) ≤ 2 ^ 62 → far' ≡ far)
+    → gate + (spelled (drop (length list) longer ++ failed) + 1) ≤ 2 ^ 62 → far' ≡ far
+near_one gate list longer failed entry body far far' tried is near short =
+    let size : spelled (drop (length list) longer ++ failed) ≡ (5 + length (spelling_of entry)) + 0 = ap spelled tried in
     let long : length body ≡ length (spelling_of entry) = ap length is in
     near (omega (arith, short, size, long))
-
-pub added_one : {D O : Type 0} (old new : View D O) (recorded : History) → new.list ≡ old.list ++ recorded → added old new ≡ recorded
-added_one old new recorded list = ap (λ (h : History). drop (length old.list) h) list ∙ drop-append_seam old.list recorded
-
-pub added_none : {D O : Type 0} (old new : View D O) → new.list ≡ old.list → added old new ≡ []
-added_none old new list = ap (λ (h : History). drop (length old.list) h) list ∙ drop-length old.list
 
 -- Two calls, of which the first left no failed entry.
 pub keeps_then : {D O : Type 0} (tells : Type 0) (clock : D → Clock) (says : O → Says) (old mid new : View D O) → Keeps tells clock says old mid → mid.origin ≡ old.origin → mid.failed ≡ []

@@ -1,4 +1,3 @@
 pub mod Lives
 pub mod Keeping
 pub mod Breaking
-pub mod Passing

@@ -60,7 +60,7 @@ fewer_test k life rest false some later = let less = later some in omega (arith,
 
 -- and fewer, where the id has one
 pub fewer_lives : (k : ℕ) (lives : List Life) → IsSome (life_in k lives) → length (without_life k lives) + 1 ≤ length lives
-fewer_lives k [] some = absurd some
+fewer_lives k [] some = absurd (false≢true some)
 fewer_lives k (life ∷ rest) some = fewer_test k life rest (life.id.0 == k) some (fewer_lives k rest)
 
 -- What is live.
@@ -137,7 +137,7 @@ pub lives_run : (k : ℕ) (items : List Item) (lives : List Life) → AreLives i
 lives_run k items lives are some item there = by (life_in k lives) some (subst (λ (found : Option Item). LifeOf found (life_in k lives)) there (are k))
   where
     by : (life : Option Life) → IsSome life → LifeOf (Some item) life → IsTrue (is_running item.phase)
-    by None none is = absurd none
+    by None none is = absurd (false≢true none)
     by (Some life) here is = is.runs
 
 -- and there is one
@@ -145,9 +145,9 @@ pub lives_there : (k : ℕ) (items : List Item) (lives : List Life) → AreLives
 lives_there k items lives are some = by (item_in k items) (life_in k lives) some (are k)
   where
     by : (found : Option Item) (life : Option Life) → IsSome life → LifeOf found life → IsSome found
-    by found None none is = absurd none
+    by found None none is = absurd (false≢true none)
     by None (Some life) here is = absurd is
-    by (Some item) (Some life) here is = tt
+    by (Some item) (Some life) here is = refl
 
 -- No attempt has more unsaved bytes.
 

@@ -1,5 +1,6 @@
-use Rattle.std.proofs.Common.{◌≡◌, List, [], ◌∷◌, ◌++◌, ℕ, length, refl, sym, ap, subst, ◌∙◌, arith, length-append}
+use Rattle.std.proofs.Common.{◌≡◌, List, [], ◌∷◌, ◌++◌, ℕ, length, drop, refl, sym, ap, subst, ◌∙◌, arith, length-append}
 use Rattle.std.proofs.lemmas.List.{append-nil}
+use Rattle.std.proofs.Math.Seq.{drop-append_seam, drop-length}
 use Rattle.dm_types.specs.declared.entry.Entry.{Entry}
 use Rattle.dm_disk_model.specs.Disk.{now}
 use Rattle.dm_disk_model.specs.Moments.{LeavesOnly}
@@ -8,7 +9,7 @@ use Rattle.dm_item.specs.Listing.{applied}
 use Rattle.dm_store.specs.declared.life.Life.{Life}
 use Rattle.dm_store.specs.Origin.{said_of}
 use Rattle.dm_store.specs.Store.{list_of, view_of}
-use Rattle.dm_store.proofs.Keeping.{added_none, added_one, desk_stands, fallen_desk, few_items, near_one, record_fell, record_goes, recorded_desk}
+use Rattle.dm_store.proofs.Keeping.{desk_stands, fallen_desk, few_items, near_one, record_fell, record_goes, recorded_desk}
 use Rattle.dm_store.proofs.Lives.{plain_stays}
 use Rattle.dm_store.proofs.recording.record.Goals as goal
 
@@ -57,8 +58,9 @@ returns-in-Ok-clause-makes g c = record {
 
 pub returns-in-Ok-clause-far : goal.returns-in-Ok-clause-far
 returns-in-Ok-clause-far g c =
-    near_one (view_of c.args.store.now) _ c.args.entry c.args.body.now (g.D.Disk.far c.args.store.now.disk) (g.D.Disk.far c.append.new.disk)
-    (ap (λ (h : List Entry). h ++ list_of c.args.store.now.failed) (added_one (view_of c.args.store.now) _ (c.args.entry ∷ []) c.push_reserved.ensures.items) ∙ ap (λ (h : List Entry). c.args.entry ∷ h) (c.requires.store.desk.failed c.requires.whole))
+    near_one c.args.store.now.journal c.args.store.now.list.items c.push_reserved.new.self.items (list_of c.args.store.now.failed) c.args.entry c.args.body.now (g.D.Disk.far c.args.store.now.disk) (g.D.Disk.far c.append.new.disk)
+    (ap (λ (h : List Entry). h ++ list_of c.args.store.now.failed) (ap (λ (h : List Entry). drop (length c.args.store.now.list.items) h) c.push_reserved.ensures.items ∙ drop-append_seam c.args.store.now.list.items (c.args.entry ∷ []))
+    ∙ ap (λ (h : List Entry). c.args.entry ∷ h) (c.requires.store.desk.failed c.requires.whole))
     c.requires.body c.append.ensures.far
 
 pub returns-in-Err-clause-goes : goal.returns-in-Err-clause-goes
@@ -78,8 +80,8 @@ returns-in-Err-clause-store g c = record {
 
 pub returns-in-Err-clause-far : goal.returns-in-Err-clause-far
 returns-in-Err-clause-far g c =
-    near_one (view_of c.args.store.now) _ c.args.entry c.args.body.now (g.D.Disk.far c.args.store.now.disk) (g.D.Disk.far c.append.new.disk)
-    (ap (λ (h : List Entry). h ++ list_of (c.put_failed.new.failed)) (added_none (view_of c.args.store.now) _ refl) ∙ ap list_of c.put_failed.ensures)
+    near_one c.args.store.now.journal c.args.store.now.list.items c.args.store.now.list.items (list_of c.put_failed.new.failed) c.args.entry c.args.body.now (g.D.Disk.far c.args.store.now.disk) (g.D.Disk.far c.append.new.disk)
+    (ap (λ (h : List Entry). h ++ list_of c.put_failed.new.failed) (drop-length c.args.store.now.list.items) ∙ ap list_of c.put_failed.ensures)
     c.requires.body c.append.ensures.far
 
 pub returns-in-Err-clause-makes : goal.returns-in-Err-clause-makes
