@@ -18,13 +18,17 @@ abbrev pub AgreesWith : ℕ → Option ℕ → Type 0
 AgreesWith known None = Unit {0}
 AgreesWith known (Some told) = told ≡ known
 
+-- the content is known by this tag: it is the head's strong entity tag
+abbrev pub IsUnderKey : List NameAndValue → List ℕ → Type 0
+IsUnderKey fields tag = HasStrong fields tag
+
 -- The fields are those of the asked part, as far as this place: it begins at the asked place, doesn't go past the asked end, and is of the content
 -- with the known strong tag and the known number of bytes.
 pub record IsAskedPart (first last : ℕ) (tag : List ℕ) (known : ℕ) (fields : List NameAndValue) (to : ℕ) (total : Option ℕ) : Type 0 where
   pub names : NamesPart fields first to total
   pub within : to ≤ last
   pub agrees : AgreesWith known total
-  pub strong : HasStrong fields tag
+  pub strong : IsUnderKey fields tag
 
 -- how many bytes a part has
 abbrev pub part_size : ℕ → ℕ → ℕ

@@ -5,16 +5,30 @@ use std::marker::Model;
 
 /// Exchanges that are over. The newest is at hand, and contracts see the oldest first.
 #[cycle(chain)]
-#[derive(Debug, Drop)]
+#[derive(Debug)]
 pub(crate) struct Chain {
     top: Link,
 }
 
 #[cycle(chain)]
-#[derive(Debug, Drop)]
+#[derive(Debug)]
 enum Link {
     End,
     More(Exchange, Box<Chain>),
+}
+
+impl Drop for Chain {
+    /// One after another, since a long chain would want a frame of the stack for each link.
+    fn drop(mut self) {
+        loop {
+            match self {
+                Chain { top: Link::End } => return,
+                Chain {
+                    top: Link::More(_newest, older),
+                } => self = Box::into_inner(older),
+            }
+        }
+    }
 }
 
 impl Model for Chain {
@@ -47,9 +61,10 @@ impl Chain {
     pub(crate) fn push(&mut self, newest: Exchange, mut spare: Box<Chain>)
         ensures { self.new ≡ self.old ++ newest ∷ [] }
     {
-        let older = std::mem::replace(&mut self.top, Link::End);
-        *spare = Chain { top: older };
-        self.top = Link::More(newest, spare);
+        *spare = std::mem::replace(self, Chain::new());
+        *self = Chain {
+            top: Link::More(newest, spare),
+        };
     }
 
     /// The exchange at a place, counted from 0 from the oldest on, or how far past the newest the

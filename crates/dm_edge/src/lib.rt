@@ -8,6 +8,7 @@ mod clock_list;
 mod counts;
 mod fault;
 mod framing;
+mod limits;
 mod net;
 mod net_script;
 mod origin;
@@ -22,8 +23,10 @@ pub use cause::{net_cause, wire_cause};
 pub use clock::Clock;
 pub use clock_list::ClockList;
 pub use counts::{NetCounts, WireCounts};
+pub use dm_types::NumberList;
 pub use fault::{EdgeFault, NetFault, WireFault};
 pub use framing::Framing;
+pub use limits::{MOST_CONTENT, MOST_FIELDS, MOST_HEAD, MOST_INTERIM, MOST_MODIFIED, MOST_TAG};
 pub use net::Net;
 pub use net_script::NetScript;
 pub use origin::{EveryByte, Generated, Origin};
@@ -33,6 +36,3 @@ pub use sink_mem::SinkMem;
 pub use wanted::{Wanted, ask_for};
 pub use wire::Wire;
 pub use wire_mem::WireMem;
-
-#[cfg(test)]
-mod tests;
