@@ -1,0 +1,5 @@
+//! Each object in memory, run through once.
+#![tactic(auto)]
+
+#[cfg(test)]
+mod edges;
