@@ -5,14 +5,15 @@ use Rattle.std.specs.Prelude.{nat_le, nat_lt, ◌&&◌, not, IsTrue, ◌↔◌}
 use Rattle.std.specs.List.{AllByRecursion, suffix_len, list_all}
 use Rattle.std.specs.Str.{bytes_eq}
 use Rattle.std.specs.Fmt.{decimal}
+use Rattle.std.proofs.lemmas.Fmt.{length-decimal-le}
 use Rattle.std.specs.Char.{to_ascii_lowercase}
 use Rattle.std.proofs.lemmas.Bool.{cases_lt, both_ways, false_from_ne_true, and_parts, leb-true, leb-false, false≢true}
 use Rattle.std.proofs.lemmas.Bool.Decides.{same_from_decides}
 use Rattle.std.proofs.lemmas.List.{length-append, length-take-le, length-drop, take-append-drop, drop_at, drop-drop, drop-append-le, map-append, same_from_push}
 use Rattle.std.proofs.lemmas.Slice.Eq.{bytes_eq-Decides}
-use Rattle.dm_name.specs.Clean.{part_end, ends_as_part, guarded, or_download, is_no_dot, stem_length, stem, extension, begins_character, cut_length, shortened, without_dot, trimmed, harmless_end, cleaned}
+use Rattle.dm_name.specs.Clean.{ends_as_part, guarded, or_download, is_no_dot, stem_length, stem, extension, begins_character, cut_length, shortened, without_dot, trimmed, harmless_end, cleaned}
 use Rattle.dm_name.specs.Forms.{form}
-use Rattle.dm_name.specs.Laws.{IsPartName}
+use Rattle.dm_types.specs.Name.{IsPart, fold_case, part_ending}
 
 -- what a comparison answered is the test
 pub decided : (r : Bool) (xs ys : List ℕ) → IsTrue r ↔ (xs ≡ ys) → r ≡ bytes_eq xs ys
@@ -31,29 +32,33 @@ end_of a e le =
     ap (λ (k : ℕ). drop k (a ++ e)) at ∙ drop_behind a e (length e - 11)
 
 pub same_end : (a b e : List ℕ) → 11 ≤ length e → ends_as_part (a ++ e) ≡ ends_as_part (b ++ e)
-same_end a b e le = ap (λ (x : List ℕ). bytes_eq (map to_ascii_lowercase x) part_end) (end_of a e le ∙ sym (end_of b e le))
+same_end a b e le = ap (λ (x : List ℕ). bytes_eq (fold_case x) part_ending) (end_of a e le ∙ sym (end_of b e le))
 
-ends_so : (x : List ℕ) → ends_as_part (x ++ part_end) ≡ true
-ends_so x = ap (λ (y : List ℕ). bytes_eq (map to_ascii_lowercase y) part_end) (end_of x part_end (omega arith))
+ends_so : (x : List ℕ) → ends_as_part (x ++ part_ending) ≡ true
+ends_so x = ap (λ (y : List ℕ). bytes_eq (fold_case y) part_ending) (end_of x part_ending (omega arith))
 
-part_front : (id epoch : List ℕ) → List ℕ
-part_front id epoch = codes "Unconfirmed " ++ (id ++ 45 ∷ epoch)
+part_front : ℕ → ℕ → List ℕ
+part_front id epoch = codes "Unconfirmed " ++ decimal id ++ codes "-" ++ decimal epoch
 
-part_parts : (name : List ℕ) → (p : IsPartName name) → name ≡ part_front p.id p.epoch ++ part_end
+part_parts : (name : List ℕ) → (p : IsPart name) → name ≡ part_front p.id p.epoch ++ part_ending
 unfolding part_front
-part_parts name p =
-    p.spelled ∙ ap (λ (x : List ℕ). codes "Unconfirmed " ++ x) (sym (append_assoc p.id (45 ∷ p.epoch) part_end)) ∙ sym (append_assoc (codes "Unconfirmed ") (p.id ++ 45 ∷ p.epoch) part_end)
+part_parts name p = p.is
 
-part_ends : (name : List ℕ) → IsPartName name → ends_as_part name ≡ true
+part_ends : (name : List ℕ) → IsPart name → ends_as_part name ≡ true
 part_ends name p = ap ends_as_part (part_parts name p) ∙ ends_so (part_front p.id p.epoch)
 
-part_length : (name : List ℕ) → IsPartName name → length name ≤ 44
+part_length : (name : List ℕ) → IsPart name → length name ≤ 44
 part_length name p =
-    let whole = ap length p.spelled in
-    let behind = length-append p.id (45 ∷ (p.epoch ++ part_end)) in
-    let rest = length-append p.epoch part_end in
-    let short = p.id_length in
-    let brief = p.epoch_length in
+    let whole = ap length p.is in
+    let front = codes "Unconfirmed " ++ decimal p.id in
+    let dashed = front ++ codes "-" in
+    let a = length-append (codes "Unconfirmed ") (decimal p.id) in
+    let b = length-append front (codes "-") in
+    let c = length-append dashed (decimal p.epoch) in
+    let d = length-append (dashed ++ decimal p.epoch) part_ending in
+    let small = p.small in
+    let id = length-decimal-le 10 p.id (omega arith) (omega (arith, small.0)) (omega (arith, small.0)) in
+    let epoch = length-decimal-le 10 p.epoch (omega arith) (omega (arith, small.1)) (omega (arith, small.1)) in
     omega arith
 
 -- ---- the guard
@@ -64,7 +69,7 @@ last_byte name h =
     let len = length-append name (95 ∷ []) in
     let within : at ≤ length name = omega arith in
     let cut = drop-append-le at name (95 ∷ []) within in
-    let same = (bytes_eq-Decides (map to_ascii_lowercase (drop at (name ++ 95 ∷ []))) part_end).0 h in
+    let same = (bytes_eq-Decides (map to_ascii_lowercase (drop at (name ++ 95 ∷ []))) part_ending).0 h in
     let ends : map to_ascii_lowercase (drop at name) ++ 95 ∷ [] ≡ codes ".crdownloa" ++ 100 ∷ [] =
     sym (ap (map to_ascii_lowercase) cut ∙ map-append to_ascii_lowercase (drop at name) (95 ∷ [])) ∙ same in
     absurd (omega (arith, (same_from_push (map to_ascii_lowercase (drop at name)) (codes ".crdownloa") 95 100 ends).1))
@@ -97,10 +102,10 @@ stem_by size behind false h = (omega arith, omega arith)
 pub stem_bounds : (name : List ℕ) → (stem_length name ≤ length name) × (length name ≤ stem_length name + 17)
 stem_bounds name = let behind = suffix_len is_no_dot name in stem_by (length name) behind (nat_le 1 behind && nat_le behind 16 && nat_lt (behind + 1) (length name)) refl
 
-stem_extension : (name : List ℕ) → stem name ++ extension name ≡ name
+pub stem_extension : (name : List ℕ) → stem name ++ extension name ≡ name
 stem_extension name = take-append-drop (stem_length name) name
 
-extension_short : (name : List ℕ) → length (extension name) ≤ 17
+pub extension_short : (name : List ℕ) → length (extension name) ≤ 17
 extension_short name = omega (arith, length-drop (stem_length name) name, stem_bounds name)
 
 cut_by : (room : ℕ) (a b c d : Bool) → 3 ≤ room → let cut = cond a room (cond b (room - 1) (cond c (room - 2) (cond d (room - 3) room))) in (room ≤ cut + 3) × (cut ≤ room)
@@ -114,7 +119,7 @@ cut_bounds : (text : List ℕ) (room : ℕ) → 3 ≤ room → (room ≤ cut_len
 cut_bounds text room h = cut_by room (begins_character text room) (begins_character text (room - 1)) (begins_character text (room - 2)) (begins_character text (room - 3)) h
 
 -- a name that was shortened has 197 to 200 bytes
-short_by : (name : List ℕ) → 200 < length name → let text = take (cut_length name (200 - length (extension name))) name ++ extension name in (197 ≤ length text) × (length text ≤ 200)
+pub short_by : (name : List ℕ) → 200 < length name → let text = take (cut_length name (200 - length (extension name))) name ++ extension name in (197 ≤ length text) × (length text ≤ 200)
 short_by name long =
     let ext = extension_short name in
     let room : 3 ≤ 200 - length (extension name) = omega arith in
@@ -125,7 +130,7 @@ short_by name long =
 
 -- ---- forms
 
-longer : (name : List ℕ) (k : ℕ) → length name ≤ length (form name k)
+pub longer : (name : List ℕ) (k : ℕ) → length name ≤ length (form name k)
 longer name zero = omega arith
 longer name (suc k) =
     let parts = ap length (stem_extension name) in
@@ -166,12 +171,12 @@ form_parts name k =
     ∙ sym (append_assoc (stem name) (codes " (" ++ decimal (suc k)) (41 ∷ extension name))
 
 -- a form of a name that doesn't end as a part's isn't a part's
-form_no_part : (name : List ℕ) (k : ℕ) → ends_as_part name ≡ false → IsPartName (form name k) → ⊥
+form_no_part : (name : List ℕ) (k : ℕ) → ends_as_part name ≡ false → IsPart (form name k) → ⊥
 form_no_part name zero h p = both_ways (ends_as_part name) h (part_ends name p)
 form_no_part name (suc k) h p =
     elim (cases_lt (length (extension name)) 11) [
       | inl few ↦
-          false≢true (stands_in is_no_bracket (part_front p.id p.epoch) part_end (numbered name k) (extension name) 41 (each_from_test is_no_bracket part_end refl)
+          false≢true (stands_in is_no_bracket (part_front p.id p.epoch) part_ending (numbered name k) (extension name) 41 (each_from_test is_no_bracket part_ending refl)
           (sym (part_parts (form name (suc k)) p) ∙ form_parts name k) few)
       | inr many ↦
           both_ways (ends_as_part name) h
@@ -181,16 +186,16 @@ form_no_part name (suc k) h p =
           ∙ part_ends (form name (suc k)) p)
     ]
 
-long_no_part : (name : List ℕ) (k : ℕ) → 197 ≤ length name → IsPartName (form name k) → ⊥
+long_no_part : (name : List ℕ) (k : ℕ) → 197 ≤ length name → IsPart (form name k) → ⊥
 long_no_part name k h p = absurd (omega (arith, longer name k, part_length (form name k) p))
 
-short_no_part : (name : List ℕ) (k : ℕ) (t : Bool) → nat_le (length name) 200 ≡ t → ends_as_part name ≡ false → IsPartName (form (cond t name (take (cut_length name (200 - length (extension name))) name ++ extension name)) k) → ⊥
+short_no_part : (name : List ℕ) (k : ℕ) (t : Bool) → nat_le (length name) 200 ≡ t → ends_as_part name ≡ false → IsPart (form (cond t name (take (cut_length name (200 - length (extension name))) name ++ extension name)) k) → ⊥
 short_no_part name k true e h p = form_no_part name k h p
 short_no_part name k false e h p = long_no_part (take (cut_length name (200 - length (extension name))) name ++ extension name) k (short_by name (leb-false (length name) 200 e)).0 p
 
-pub no_part_is : (raw : List ℕ) (k : ℕ) → k ≤ 100 → IsPartName (form (cleaned raw) k) → ⊥
+pub no_part_is : (raw : List ℕ) (k : ℕ) → IsPart (form (cleaned raw) k) → ⊥
 unfolding cleaned
-no_part_is raw k le p =
+no_part_is raw k p =
     let name = guarded (or_download (without_dot (trimmed (harmless_end raw)))) in
     short_no_part name k (nat_le (length name) 200) refl (guarded_is (or_download (without_dot (trimmed (harmless_end raw))))) p
 

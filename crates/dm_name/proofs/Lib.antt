@@ -1,1 +1,4 @@
 pub mod LawLemmas
+pub mod RunLemmas
+pub mod PlainLemmas
+pub mod TextLemmas

@@ -2,8 +2,8 @@
 use Rattle.std.specs.Prelude.{ℕ, ◌+◌, ◌-◌, ◌==◌, ◌&&◌, ◌||◌, not, Bool, if◌then◌else◌, nat_lt, nat_le, List, [], ◌∷◌, ◌++◌, map, length, take, drop, codes, slice_index}
 use Rattle.std.specs.List.{after_last, suffix_len, prefix_len, list_any}
 use Rattle.std.specs.Int.{is_in_range}
-use Rattle.std.specs.Char.{to_ascii_lowercase}
 use Rattle.std.specs.Str.{bytes_eq}
+use Rattle.dm_types.specs.Name.{fold_case, part_ending}
 
 -- 1. Only what follows the last `/` or `\` is kept.
 abbrev pub is_separator : ℕ → Bool
@@ -40,11 +40,8 @@ or_download [] = codes "download"
 or_download (b ∷ name) = b ∷ name
 
 -- 6. Where it ends as a part's does, in any case, `_` is added.
-abbrev pub part_end : List ℕ
-part_end = codes ".crdownload"
-
 abbrev pub ends_as_part : List ℕ → Bool
-ends_as_part name = bytes_eq (map to_ascii_lowercase (drop (length name - 11) name)) part_end
+ends_as_part name = bytes_eq (fold_case (drop (length name - 11) name)) part_ending
 
 abbrev pub guarded : List ℕ → List ℕ
 guarded name = if ends_as_part name then name ++ 95 ∷ [] else name

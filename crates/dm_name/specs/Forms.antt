@@ -1,7 +1,7 @@
 -- The forms of a name, and the first that is free.
-use Rattle.std.specs.Prelude.{◌≡◌, ◌<◌, ◌≤◌, ℕ, zero, suc, List, ◌++◌, map, codes, Any}
+use Rattle.std.specs.Prelude.{◌≡◌, ◌<◌, ◌≤◌, ℕ, zero, suc, List, ◌++◌, codes, Any}
 use Rattle.std.specs.Fmt.{decimal}
-use Rattle.std.specs.Char.{to_ascii_lowercase}
+use Rattle.dm_types.specs.Name.{fold_case}
 use Rattle.dm_name.specs.Clean.{stem, extension}
 
 -- the name itself, and the name with a number before its extension
@@ -11,7 +11,7 @@ form name (suc k) = stem name ++ (codes " (" ++ (decimal (suc k) ++ (codes ")" +
 
 -- one of the taken names is this one, ASCII case ignored
 abbrev pub IsTaken : List (List ℕ) → List ℕ → Type 0
-IsTaken taken name = Any (λ other. map to_ascii_lowercase other ≡ map to_ascii_lowercase name) taken
+IsTaken taken name = Any (λ other. fold_case other ≡ fold_case name) taken
 
 -- the first of the 101 forms that isn't taken
 pub record IsFirstFree (wish : List ℕ) (taken : List (List ℕ)) (name : List ℕ) : Type 0 where

@@ -3,7 +3,7 @@ ghost use Rattle.dm_name.specs.Forms.{form, AreAllTaken, IsFirstFree, IsTaken};
 
 use crate::clean::stem_length;
 use dm_disk_model::NameList;
-use dm_types::{NoMemory, Text};
+use dm_types::{NoMemory, Text, same_folded};
 use std::alloc::Global;
 
 /// What keeps a wish from becoming a name.
@@ -47,7 +47,7 @@ fn is_taken(taken: &NameList, name: &[u8]) -> bool
     taken
         .items()
         .iter()
-        .any(|other| other.bytes().eq_ignore_ascii_case(name))
+        .any(|other| same_folded(other.bytes(), name))
 }
 
 /// The first of the wish and its forms `wish (1)` to `wish (100)`, the number before the extension, that equals no

@@ -8,7 +8,7 @@ mod runs;
 mod wish;
 
 pub use forms::{NameFault, unique_name};
-pub use laws::no_part;
+pub use laws::name_laws;
 pub use wish::wish_name;
 
 #[cfg(test)]

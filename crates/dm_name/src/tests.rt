@@ -1,6 +1,6 @@
 use crate::*;
 use dm_disk_model::NameList;
-use dm_disposition::read_disposition;
+use dm_disposition::disposition_of;
 use dm_types::{Address, Text};
 use std::alloc::Global;
 use std::process::Abort;
@@ -77,7 +77,7 @@ fn check_told(
     name: &[u8],
 ) -> Result<(), Fail> {
     let from = address(rt.alloc(), target)?;
-    let told = read_disposition(rt.alloc(), value).ok();
+    let told = disposition_of(rt.alloc(), Some(value))?;
     let wish = wish_name(rt.alloc(), b"", told.as_ref(), &from)?;
     assert_eq!(rt; wish.bytes(), name);
     Ok(())
@@ -132,5 +132,49 @@ fn the_hundredth_number_is_the_last(rt: HostRuntime) -> Result<(), Fail> {
         Err(fault) => assert_eq!(rt; fault, NameFault::AllTaken),
         Ok(_) => assert!(rt; false),
     }
+    Ok(())
+}
+
+/// So many bytes, and then `.txt`.
+fn long_name(alloc: Global, byte: &[u8], count: u8) -> Result<Text, Fail> {
+    let mut name = Text::new(alloc);
+    for _ in 0..count {
+        name.push_bytes(byte)?;
+    }
+    name.push_bytes(b".txt")?;
+    Ok(name)
+}
+
+#[test]
+fn names_of_200_and_of_255_bytes(rt: HostRuntime) -> Result<(), Fail> {
+    let most = long_name(rt.alloc(), b"a", 196)?;
+    check_handed(&rt, most.bytes(), most.bytes())?;
+    let longer = long_name(rt.alloc(), b"a", 197)?;
+    check_handed(&rt, longer.bytes(), most.bytes())?;
+    let longest = long_name(rt.alloc(), b"a", 251)?;
+    check_handed(&rt, longest.bytes(), most.bytes())?;
+    Ok(())
+}
+
+#[test]
+fn bytes_that_are_no_text_are_cut_as_they_stand(rt: HostRuntime) -> Result<(), Fail> {
+    check_handed(&rt, b"\xff/\xfeb.txt", b"\xfeb.txt")?;
+    let longest = long_name(rt.alloc(), b"\x80", 251)?;
+    let most = long_name(rt.alloc(), b"\x80", 196)?;
+    check_handed(&rt, longest.bytes(), most.bytes())?;
+    Ok(())
+}
+
+#[test]
+fn a_form_of_206_bytes(rt: HostRuntime) -> Result<(), Fail> {
+    let wish = long_name(rt.alloc(), b"a", 196)?;
+    let mut taken = NameList::new(rt.alloc());
+    for _ in 0..100u8 {
+        let name = unique_name(rt.alloc(), wish.bytes(), &taken)?;
+        taken.push(name)?;
+    }
+    let last = unique_name(rt.alloc(), wish.bytes(), &taken)?;
+    assert_eq!(rt; last.len(), 206);
+    assert!(rt; last.bytes().ends_with(b" (100).txt"));
     Ok(())
 }
