@@ -237,7 +237,7 @@ fn a_head_has_65536_bytes(rt: HostRuntime) -> Result<(), Fail> {
 #[test]
 fn heads_that_come_byte_by_byte(rt: HostRuntime) -> Result<(), Fail> {
     let mut stream = behind_interim(rt.alloc(), 8, 65_460)?;
-    stream.truncate(stream.len() - COUNTED.len());
+    stream.truncate(stream.len().saturating_sub(COUNTED.len()));
     stream.extend_from_slice(of_length(rt.alloc(), 65_500)?.as_slice())?;
     assert!(rt; gives(rt.alloc(), &stream, 1, b"ok"));
     Ok(())
