@@ -1,3 +1,4 @@
 pub mod Lives
 pub mod Keeping
 pub mod Breaking
+pub mod Passing

@@ -4,13 +4,15 @@
 
 mod finding;
 mod life;
+mod pass;
 mod recording;
 mod room;
 mod store;
 mod syncing;
 
-pub use finding::find_life;
+pub use finding::{find_life, live_at};
 pub use life::Life;
+pub use pass::{Gone, Pass};
 pub use recording::{interrupt, record};
 pub use room::make_room;
 pub use store::Store;
