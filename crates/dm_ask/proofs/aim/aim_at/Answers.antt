@@ -1,0 +1,7 @@
+use Rattle.std.proofs.Common.{◌≡◌, ◌∙◌, sym, ap, subst, Option, Some, None}
+use Rattle.dm_request.specs.declared.request.Ask.{Ask}
+use Rattle.dm_ask.proofs.Talking.{ordered_ask}
+use Rattle.dm_ask.proofs.aim.aim_at.Goals as goal
+
+pub request_text-requires : goal.request_text-requires
+request_text-requires c = ordered_ask c.args.wanted.now c.in-Some.range c.requires (sym c.in_ok-ask_for.ensures ∙ c.in-Some.is)
