@@ -1,3 +1,3 @@
 pub mod Answering
-pub mod Following
+pub mod Redirecting
 pub mod Talking

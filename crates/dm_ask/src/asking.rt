@@ -82,8 +82,29 @@ fn content_of(head: Head) -> Result<Head, Text>
     ensures content { IfOk result (λ same. (same ≡ head) × (head.kind ≡ kind.Content)) }
     ensures redirect { IfErr result (λ location. head.kind ≡ kind.Redirect location) }
 {
-    match head.kind {
-        Kind::Content => Ok(head),
+    let Head {
+        kind,
+        status,
+        strong,
+        first,
+        last,
+        total,
+        ranges,
+        disposition,
+        modified,
+    } = head;
+    match kind {
+        Kind::Content => Ok(Head {
+            kind: Kind::Content,
+            status,
+            strong,
+            first,
+            last,
+            total,
+            ranges,
+            disposition,
+            modified,
+        }),
         Kind::Redirect(location) => Err(location),
     }
 }

@@ -9,7 +9,7 @@ use Rattle.dm_ask.specs.declared.asking.NoContent.{NoContent}
 use Rattle.dm_ask.specs.Causes.{IsAskCause}
 use Rattle.dm_ask.specs.Following.{IsAnswered, IsContent, LeadsFor, NoneSays, NoneShown}
 use Rattle.dm_ask.specs.Redirects.{purpose_of}
-use Rattle.dm_ask.proofs.Following.{err_by, none_since}
+use Rattle.dm_ask.proofs.Redirecting.{err_by, none_since}
 use Rattle.dm_ask.proofs.Talking.{broke_leads, connect_cuts, connect_shown, none_shown_since}
 use Rattle.dm_ask.proofs.asking.ask_once.Goals as goal
 
@@ -31,7 +31,7 @@ returns-in-Err-connect-clause-none g c tells =
     inl (
       c.connect.ensures.closed,
       subst (CutsNet (N.faults c.args.net.now) (N.faults c.connect.new.self)) (sym c.net_cause.ensures)
-          (connect_cuts (N.faults c.args.net.now) (N.faults c.connect.new.self) c.in-Err-connect.fault c.connect.ensures.cause.cause),
+          (connect_cuts (N.faults c.args.net.now) (N.faults c.connect.new.self) c.in-Err-connect.fault c.in-Err-connect.ensures.cause.cause),
     )
 
 pub returns-in-Err-connect-clause-leads : goal.returns-in-Err-connect-clause-leads

@@ -2,7 +2,7 @@ use Rattle.std.proofs.Common.{List, ℕ, ◌∙◌, sym, subst}
 use Rattle.dm_edge.specs.Wire.{closed_of, stream_of}
 use Rattle.dm_ask.specs.Following.{SentBefore}
 use Rattle.dm_ask.specs.Redirects.{purpose_of}
-use Rattle.dm_ask.proofs.Following.{closed_says}
+use Rattle.dm_ask.proofs.Redirecting.{closed_says}
 use Rattle.dm_ask.proofs.Talking.{none_shown}
 use Rattle.dm_ask.proofs.asking.hear.Goals as goal
 

@@ -4,7 +4,7 @@ use Rattle.dm_ask.specs.Asked.{IsReady, IsReached}
 use Rattle.dm_ask.specs.Following.{NoneSays, NoneShown}
 use Rattle.dm_ask.specs.Redirects.{purpose_of}
 use Rattle.dm_ask.proofs.Answering.{is_ready, is_reached, of_reached, is_cause}
-use Rattle.dm_ask.proofs.Following.{led_none, stop_at}
+use Rattle.dm_ask.proofs.Redirecting.{led_none, stop_at}
 use Rattle.dm_ask.proofs.following.ask_part.Goals as goal
 
 pub only_cause-requires : goal.only_cause-requires

@@ -3,7 +3,7 @@ use Rattle.dm_edge.specs.declared.wanted.Wanted.TheVariants.{Whole}
 use Rattle.dm_ask.specs.Asked.{IsReady, IsReached}
 use Rattle.dm_ask.specs.Redirects.{purpose_of}
 use Rattle.dm_ask.proofs.Answering.{is_ready, is_reached, of_reached}
-use Rattle.dm_ask.proofs.Following.{led_none, led_more, none_since, stop_at, stop_shown}
+use Rattle.dm_ask.proofs.Redirecting.{led_none, led_more, none_since, stop_at, stop_shown}
 use Rattle.dm_ask.proofs.Talking.{none_shown_since}
 use Rattle.dm_ask.proofs.following.follow.Goals as goal
 
@@ -12,7 +12,7 @@ loop-answered-init g c =
     let N = g.N.Net in
     record {
       within = omega arith;
-      request = c.requires;
+      request = c.requires.request;
       led = λ tells. led_none (purpose_of c.args.id c.args.attempt) c.args.first.address (N.closed c.args.net.now);
       reads = λ reads. reads;
       origin = refl;

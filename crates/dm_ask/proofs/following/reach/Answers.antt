@@ -8,7 +8,7 @@ use Rattle.dm_ask.specs.Redirects.{purpose_of}
 use Rattle.dm_ask.proofs.following.reach.Goals as goal
 
 pub follow-requires : goal.follow-requires
-follow-requires g c = subst (λ (w : Wanted). IsAim w c.args.aim) c.in-Whole.is c.requires
+follow-requires g c = subst (λ (w : Wanted). IsAim w c.args.aim) c.in-Whole.is c.requires.request
 
 pub returns-in-Whole-clause-ready : goal.returns-in-Whole-clause-ready
 returns-in-Whole-clause-ready g c =
@@ -28,7 +28,7 @@ returns-in-Whole-clause-stopped g c tells =
     (N.closed c.args.net.now) (N.closed c.follow.new.net))) (sym c.in-Whole.is) (c.follow.ensures.stopped tells)
 
 pub ask_part-requires-clause-request : goal.ask_part-requires-clause-request
-ask_part-requires-clause-request g c = subst (λ (w : Wanted). IsAim w c.args.aim) c.in-Part.is c.requires
+ask_part-requires-clause-request g c = subst (λ (w : Wanted). IsAim w c.args.aim) c.in-Part.is c.requires.request
 
 pub returns-in-Part-clause-ready : goal.returns-in-Part-clause-ready
 returns-in-Part-clause-ready g c =
