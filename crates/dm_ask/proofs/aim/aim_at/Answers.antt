@@ -1,5 +1,4 @@
-use Rattle.std.proofs.Common.{◌≡◌, ◌∙◌, sym, ap, subst, Option, Some, None}
-use Rattle.dm_request.specs.declared.request.Ask.{Ask}
+use Rattle.std.proofs.Common.{◌∙◌, sym}
 use Rattle.dm_ask.proofs.Talking.{ordered_ask}
 use Rattle.dm_ask.proofs.aim.aim_at.Goals as goal
 

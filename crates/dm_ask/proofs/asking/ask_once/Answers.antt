@@ -1,6 +1,5 @@
 use Rattle.std.specs.Prelude.{IfOk, IfErr}
 use Rattle.std.proofs.Common.{List, inl, refl, sym, ◌∙◌, ap, subst}
-use Rattle.dm_policy.specs.declared.cause.Cause.{Cause}
 use Rattle.dm_edge.specs.Causes.{CutsNet}
 use Rattle.dm_edge.specs.Wire.{Closed}
 use Rattle.dm_edge.specs.declared.wanted.Wanted.{Wanted}

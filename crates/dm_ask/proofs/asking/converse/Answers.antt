@@ -1,6 +1,4 @@
 use Rattle.std.proofs.Common.{◌≡◌, inl, refl, sym, subst}
-use Rattle.dm_edge.specs.Begins.{HasRedirect}
-use Rattle.dm_edge.specs.Wire.{stream_of}
 use Rattle.dm_reply.specs.declared.head.Head.{Head}
 use Rattle.dm_reply.specs.declared.head.Kind.TheVariants as kind
 use Rattle.dm_reply.specs.Content.{HeadSays}

@@ -1,5 +1,4 @@
-use Rattle.std.proofs.Common.{List, ℕ, ◌∙◌, sym, subst}
-use Rattle.dm_edge.specs.Wire.{closed_of, stream_of}
+use Rattle.std.proofs.Common.{List, ℕ, ◌∙◌, subst}
 use Rattle.dm_ask.specs.Following.{SentBefore}
 use Rattle.dm_ask.specs.Redirects.{purpose_of}
 use Rattle.dm_ask.proofs.Redirecting.{closed_says}

@@ -1,4 +1,4 @@
-use Rattle.std.proofs.Common.{◌≡◌, arith, inl, inr, refl, ◌∙◌, ap, sym, subst}
+use Rattle.std.proofs.Common.{◌≡◌, arith, inr, refl, subst}
 use Rattle.dm_ask.specs.declared.asking.NoContent.TheVariants as none_as
 use Rattle.dm_ask.specs.Asked.{IsReady, IsReached}
 use Rattle.dm_ask.specs.Following.{NoneSays, NoneShown}

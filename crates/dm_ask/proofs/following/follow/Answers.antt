@@ -1,4 +1,4 @@
-use Rattle.std.proofs.Common.{◌≡◌, arith, inl, refl, ◌∙◌, ap, sym, subst}
+use Rattle.std.proofs.Common.{◌≡◌, arith, inl, refl, ◌∙◌}
 use Rattle.dm_edge.specs.declared.wanted.Wanted.TheVariants.{Whole}
 use Rattle.dm_ask.specs.Asked.{IsReady, IsReached}
 use Rattle.dm_ask.specs.Redirects.{purpose_of}

@@ -8,7 +8,7 @@ use Rattle.dm_ask.specs.Redirects.{purpose_of}
 use Rattle.dm_ask.proofs.following.reach.Goals as goal
 
 pub follow-requires : goal.follow-requires
-follow-requires g c = subst (λ (w : Wanted). IsAim w c.args.aim) c.in-Whole.is c.requires.request
+follow-requires g c = record { request = subst (λ (w : Wanted). IsAim w c.args.aim) c.in-Whole.is c.requires.request }
 
 pub returns-in-Whole-clause-ready : goal.returns-in-Whole-clause-ready
 returns-in-Whole-clause-ready g c =
