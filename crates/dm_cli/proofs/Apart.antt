@@ -1,5 +1,5 @@
 -- A stream that is a whole reply is none of those that end otherwise.
-use Rattle.std.proofs.Common.{◌≡◌, ℕ, List, Option}
+use Rattle.std.proofs.Common.{ℕ, List, Option}
 use Rattle.dm_types.specs.declared.address.Address.{Address}
 use Rattle.dm_policy.specs.declared.cause.Cause.{Cause}
 use Rattle.dm_edge.specs.declared.wanted.Wanted.TheVariants as asks

@@ -1,5 +1,5 @@
 -- The head of a reply to the whole request.
-use Rattle.std.proofs.Common.{◌≡◌, List, ℕ, subst}
+use Rattle.std.proofs.Common.{◌≡◌, subst}
 use Rattle.httparse.specs.Grammar.{ResponseHead}
 use Rattle.dm_edge.specs.Wire.{Told}
 use Rattle.dm_edge.specs.declared.wanted.Wanted.TheVariants as asks

@@ -1,11 +1,11 @@
 -- What a run of a command of the list did.
-use Rattle.std.specs.Prelude.{◌≡◌, ◌⊎◌, ℕ, List, Option}
+use Rattle.std.specs.Prelude.{◌⊎◌, ℕ, List, Option}
 use Rattle.dm_cli.specs.Served.{IsGet}
 use Rattle.dm_list.specs.Listed.{IsAsked as Asks, Listing as Asked, Adds, Lists, Shows}
 use Rattle.dm_list.specs.declared.ending.ListEnding.{ListEnding}
 use Rattle.dm_request.specs.Fault.{IsNoAddress}
 use Rattle.dm_cli.specs.declared.ending.Ending.{Ending}
-use Rattle.dm_cli.specs.declared.ending.Ending.TheVariants.{Complete, Interrupted, BadWords, BadAddress, DiskFailed, NoMemory}
+use Rattle.dm_cli.specs.declared.ending.Ending.TheVariants.{BadWords, BadAddress}
 use Rattle.dm_cli.specs.Run.{HasBadAddress, IsSomeGet}
 
 -- there is one ending, and it is so
