@@ -1,0 +1,9 @@
+pub mod Forms
+pub mod Hard
+pub mod Live
+pub mod MoreRows
+pub mod Old
+pub mod OneAnswer
+pub mod OneLanding
+pub mod Rows
+pub mod Steps
