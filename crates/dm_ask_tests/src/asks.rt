@@ -1,3 +1,6 @@
+ghost use Rattle.std.specs.Prelude.{IfOk};
+ghost use Rattle.dm_edge.specs.Fair.{IsOrdered};
+
 use crate::bench::{Faults, address, net};
 use dm_ask::{Asked, ask};
 use dm_edge::{Net, NetFault, NetScript, Wanted, WireFault};
@@ -27,7 +30,9 @@ fn ran(
     streams: &[&[u8]],
     faults: Faults,
     wanted: Wanted,
-) -> Result<Outcome, NoMemory> {
+) -> Result<Outcome, NoMemory>
+    requires { IsOrdered wanted }
+{
     let mut net = net(alloc, streams, faults)?;
     let at = address(alloc)?;
     let answer = match ask(alloc, &mut net, &at, ItemId(7), Attempt(3), wanted) {
@@ -48,7 +53,9 @@ fn ran(
 }
 
 /// The second half of `hello world`, under the tag `"a"`.
-fn part(alloc: Global) -> Result<Wanted, NoMemory> {
+fn part(alloc: Global) -> Result<Wanted, NoMemory>
+    ensures { IfOk result (λ wanted. IsOrdered wanted) }
+{
     Ok(Wanted::Part {
         first: 5,
         last: 10,
