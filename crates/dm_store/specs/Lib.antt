@@ -3,5 +3,7 @@ pub mod Keeps
 pub mod Lives
 pub mod Origin
 pub mod Passes
+pub mod Publishing
+pub mod Readied
 pub mod Store
 pub mod View

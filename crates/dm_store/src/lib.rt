@@ -5,6 +5,8 @@
 mod finding;
 mod life;
 mod pass;
+mod publishing;
+mod readying;
 mod recording;
 mod room;
 mod store;
@@ -13,6 +15,8 @@ mod syncing;
 pub use finding::{find_life, live_at};
 pub use life::Life;
 pub use pass::{Gone, Pass};
+pub use publishing::publish_item;
+pub use readying::{Readied, ready};
 pub use recording::{interrupt, record};
 pub use room::make_room;
 pub use store::Store;
