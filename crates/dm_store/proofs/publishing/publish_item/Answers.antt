@@ -11,19 +11,22 @@ publish-requires-clause-one_area g c told = one_area c.args.store.now.items.item
 pub returns-in-Ok-clause-keeps : goal.returns-in-Ok-clause-keeps
 returns-in-Ok-clause-keeps g c =
     named_keeps g.D.Disk.tells g.D.Disk.history (λ o. said_of (g.O.Origin.says o)) (view_of c.args.store.now) c.publish.new.disk c.requires.store.desk c.requires.whole c.args.id.0 c.args.part.now c.args.target.now c.requires.moving
-    (λ told. g.met.D.Disk.sound told c.publish.new.disk) (λ told. g.met.D.Disk.sound told c.args.store.now.disk (g.D.Disk.history c.args.store.now.disk).moment) c.requires.stands c.publish.ensures.done c.publish.ensures.moves
+    (λ told. g.met.D.Disk.sound told c.publish.new.disk) (λ told. g.met.D.Disk.sound told c.args.store.now.disk (g.D.Disk.history c.args.store.now.disk).moment) c.requires.stands c.in-Ok.ensures.done c.in-Ok.ensures.moves
 
 pub returns-in-Ok-clause-store : goal.returns-in-Ok-clause-store
 returns-in-Ok-clause-store g c = record {
   desk = named_desk g.D.Disk.tells g.D.Disk.history (λ o. said_of (g.O.Origin.says o)) (view_of c.args.store.now) c.publish.new.disk c.requires.store.desk c.requires.whole c.args.id.0 c.args.part.now c.args.target.now c.requires.moving
-      (λ told. g.met.D.Disk.sound told c.publish.new.disk) (λ told. g.met.D.Disk.sound told c.args.store.now.disk (g.D.Disk.history c.args.store.now.disk).moment) c.requires.stands c.publish.ensures.done c.publish.ensures.moves;
+      (λ told. g.met.D.Disk.sound told c.publish.new.disk) (λ told. g.met.D.Disk.sound told c.args.store.now.disk (g.D.Disk.history c.args.store.now.disk).moment) c.requires.stands c.in-Ok.ensures.done c.in-Ok.ensures.moves;
   room = c.requires.store.room;
 }
 
 pub returns-in-Ok-clause-named : goal.returns-in-Ok-clause-named
 returns-in-Ok-clause-named g c told =
     named_stands g.D.Disk.tells g.D.Disk.history (λ o. said_of (g.O.Origin.says o)) (view_of c.args.store.now) c.publish.new.disk c.requires.store.desk c.requires.whole c.args.id.0 c.args.part.now c.args.target.now c.requires.moving
-    (λ told. g.met.D.Disk.sound told c.publish.new.disk) (λ told. g.met.D.Disk.sound told c.args.store.now.disk (g.D.Disk.history c.args.store.now.disk).moment) c.requires.stands c.publish.ensures.done c.publish.ensures.moves told
+    (λ told. g.met.D.Disk.sound told c.publish.new.disk) (λ told. g.met.D.Disk.sound told c.args.store.now.disk (g.D.Disk.history c.args.store.now.disk).moment) c.requires.stands c.in-Ok.ensures.done c.in-Ok.ensures.moves told
+
+pub returns-in-Ok-clause-reads : goal.returns-in-Ok-clause-reads
+returns-in-Ok-clause-reads g c told apart = (c.in-Ok.ensures.moves told apart).done.0
 
 pub returns-in-Ok-clause-beside : goal.returns-in-Ok-clause-beside
 returns-in-Ok-clause-beside g c told =
