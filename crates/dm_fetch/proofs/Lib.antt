@@ -1,0 +1,5 @@
+pub mod Totals
+pub mod Sharing
+pub mod Turns
+pub mod Rounds
+pub mod Ends

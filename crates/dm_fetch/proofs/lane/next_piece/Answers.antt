@@ -1,0 +1,26 @@
+use Rattle.std.proofs.Common.{List, ℕ, ◌+◌, ◌≤◌, arith}
+use Rattle.dm_fetch.specs.Lanes.{HasGiven}
+use Rattle.dm_fetch.proofs.Turns.{most_same, piece_fits}
+use Rattle.dm_fetch.proofs.lane.next_piece.Goals as goal
+
+pub moved-requires-clause-fits : goal.moved-requires-clause-fits
+moved-requires-clause-fits g c =
+    let keeps = rw c.in-Ok-Bytes.field-0-is at c.in-Ok-Bytes.ensures.keeps in
+    piece_fits c.args.lane.now c.room_of.result c.in-Ok-Bytes.count c.requires.on c.requires.at c.room_of.ensures.fits (omega (arith, keeps.1)) keeps.2
+
+pub returns-in-Ok-Bytes-clause-says : goal.returns-in-Ok-Bytes-clause-says
+returns-in-Ok-Bytes-clause-says g c tells bytes given = record {
+  head = given.head;
+  has = rw c.in-Ok-Bytes.field-0-is at (c.in-Ok-Bytes.ensures.says tells c.args.lane.now.reader.wanted given.head bytes given.has);
+}
+
+pub returns-in-Ok-End-clause-says : goal.returns-in-Ok-End-clause-says
+returns-in-Ok-End-clause-says g c tells bytes given =
+    let says = rw c.in-Ok-End.field-0-is at (c.in-Ok-End.ensures.says tells c.args.lane.now.reader.wanted given.head bytes given.has) in
+    (record { head = given.head; all = says.0 }, record { head = given.head; has = says.1 })
+
+pub returns-in-Err-clause-says : goal.returns-in-Err-clause-says
+returns-in-Err-clause-says g c tells bytes given = (c.in-Err.ensures.says tells c.args.lane.now.reader.wanted given.head bytes given.has).0
+
+pub returns-in-Ok-Bytes-clause-limit : goal.returns-in-Ok-Bytes-clause-limit
+returns-in-Ok-Bytes-clause-limit g c = most_same c.args.lane.now.reader c.content.new.self c.content.ensures.kept.1 c.content.ensures.kept.2

@@ -1,0 +1,18 @@
+use Rattle.std.proofs.Common.{◌≡◌, ◌++◌, length, vec_capacity}
+use Rattle.dm_types.specs.Faults.{NoneFell}
+use Rattle.dm_fetch.specs.Lanes.{closed_lanes}
+use Rattle.dm_fetch.proofs.lanes.close_all.Given as goal
+
+abbrev pub invariant-loop-net : goal.invariant-loop-net
+invariant-loop-net g l =
+    let N = g.N.Net in
+    let W = g.N.W.Wire in
+    record {
+      closed : N.tells → N.closed l.net ++ closed_lanes W.purpose W.told l.lanes.items ≡ N.closed l.initial.net ++ closed_lanes W.purpose W.told l.initial.lanes.items;
+      capacity : vec_capacity l.lanes ≡ vec_capacity l.initial.lanes;
+      later : NoneFell (N.faults l.initial.net) (N.faults l.net);
+      origin : N.origin_of l.net ≡ N.origin_of l.initial.net;
+    }
+
+abbrev pub decreases-loop-net : goal.decreases-loop-net
+decreases-loop-net g l = length l.lanes.items

@@ -1,0 +1,5 @@
+pub mod Calls
+pub mod Shares
+pub mod Asking
+pub mod Telling
+pub mod Lanes
