@@ -3,3 +3,4 @@ pub mod Sharing
 pub mod Turns
 pub mod Rounds
 pub mod Ends
+pub mod Rows

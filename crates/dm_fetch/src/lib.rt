@@ -2,6 +2,7 @@
 #![tactic(auto)]
 
 mod calls;
+mod ended;
 mod landing;
 mod lane;
 mod lanes;
@@ -9,7 +10,11 @@ mod source;
 mod telling;
 
 pub use calls::{Calls, NotLanded, Refused};
+pub use ended::Ended;
 pub use lane::{Lane, Stop, Turn};
 pub use lanes::{Tools, close_all, let_go, read_lanes, run_round};
 pub use source::{Source, parts_wanted, source_of};
 pub use telling::{Told, told_of};
+
+#[cfg(test)]
+mod tests;

@@ -24,3 +24,9 @@ returns-in-Err-clause-says g c tells bytes given = (c.in-Err.ensures.says tells 
 
 pub returns-in-Ok-Bytes-clause-limit : goal.returns-in-Ok-Bytes-clause-limit
 returns-in-Ok-Bytes-clause-limit g c = most_same c.args.lane.now.reader c.content.new.self c.content.ensures.kept.1 c.content.ensures.kept.2
+
+pub returns-in-Ok-End-clause-limit : goal.returns-in-Ok-End-clause-limit
+returns-in-Ok-End-clause-limit g c = most_same c.args.lane.now.reader c.content.new.self c.content.ensures.kept.1 c.content.ensures.kept.2
+
+pub returns-in-Err-clause-limit : goal.returns-in-Err-clause-limit
+returns-in-Err-clause-limit g c = most_same c.args.lane.now.reader c.content.new.self c.content.ensures.kept.1 c.content.ensures.kept.2

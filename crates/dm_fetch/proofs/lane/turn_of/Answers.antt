@@ -12,6 +12,14 @@ land_piece-requires-clause-next g c =
     piece_next g.W.Wire.tells g.W.Wire.told (g.C.Calls.shares c.args.calls.now) c.args.lane.now c.next_piece.new.lane c.requires.ready c.next_piece.ensures.part c.next_piece.ensures.wanted
     c.in-Ok-Bytes.count _ c.next_piece.new.buffer moves (omega (arith, moves.1, c.next_piece.auto.buffer))
 
+pub next_piece-requires-clause-at : goal.next_piece-requires-clause-at
+next_piece-requires-clause-at g c = omega (arith, c.requires.ready.at, c.requires.ready.given)
+
+pub turn_at-requires-clause-within : goal.turn_at-requires-clause-within
+turn_at-requires-clause-within g c =
+    let moves = rw c.in-Ok-Bytes.field-0-is at c.in-Ok-Bytes.ensures.moves in
+    moves.3
+
 pub returns-in-Ok-clause-says : goal.returns-in-Ok-clause-says
 returns-in-Ok-clause-says g c =
     let old = c.args.lane.now in
