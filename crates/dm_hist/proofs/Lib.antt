@@ -1,3 +1,4 @@
 mod Counts
 mod Pages
 mod Placing
+mod Words
