@@ -1,4 +1,4 @@
-ghost use Rattle.std.specs.Prelude.{◌≡◌, ◌≤◌, ◌^◌, ℕ, ⊥, [], IfOk, IfSome};
+ghost use Rattle.std.specs.Prelude.{◌≡◌, ◌≤◌, ◌^◌, ⊥, [], IfSome};
 ghost use Rattle.dm_types.specs.Faults.{HasCause};
 ghost use Rattle.dm_hist.specs.Faults.{keeper_count, keeper_kind};
 
@@ -160,9 +160,6 @@ impl<S: Alter + Drop> SqlKeeper<S> {
 }
 
 impl<S: Alter + Drop> Keeper for SqlKeeper<S> {
-    ghost use Rattle.std.specs.Prelude.{⊥, []};
-    ghost use Rattle.dm_hist.specs.Faults.{keeper_count};
-
     ghost tells = { ⊥ };
 
     ghost rows = { λ _. [] };
