@@ -2,6 +2,7 @@ pub mod Forms
 pub mod Hard
 pub mod Live
 pub mod MoreRows
+pub mod NeverShort
 pub mod Old
 pub mod OneAnswer
 pub mod OneLanding
