@@ -33,20 +33,20 @@ pub trait Calls {
     ghost unsaved: { Self → ℕ };
 
     /// The most bytes of a piece.
-    ghost piece: { Self → ℕ };
+    ghost most_piece: { Self → ℕ };
 
     /// Lands the next piece of a part.
     fn land(&mut self, part: &Part, at: u64, piece: &[u8]) -> Result<(), NotLanded>
         requires next { IsNext (shares self.old) part.now at piece.now }
-        requires few { length piece.now ≤ piece self.old }
+        requires few { length piece.now ≤ most_piece self.old }
         ensures landed { OnOk result (shares self.new ≡ added (shares self.old) part.now.index piece.now) }
         ensures kept { OnErr result (shares self.new ≡ shares self.old) }
         ensures due { IfErr result (IfDue ((0 < unsaved self.old) × (unsaved self.new ≡ unsaved self.old))) }
-        ensures limits { piece self.new ≡ piece self.old };
+        ensures limits { most_piece self.new ≡ most_piece self.old };
 
     /// Saves what was landed.
     fn checkpoint(&mut self) -> Result<(), Refused>
         ensures saved { OnOk result (unsaved self.new ≡ 0) }
         ensures kept { shares self.new ≡ shares self.old }
-        ensures limits { piece self.new ≡ piece self.old };
+        ensures limits { most_piece self.new ≡ most_piece self.old };
 }

@@ -7,10 +7,10 @@ use dm_slice::Part;
 /// Saves what was landed, and lands the piece.
 fn save_and_land<C: Calls>(calls: &mut C, part: &Part, at: u64, piece: &[u8]) -> Result<(), Refused>
     requires next { IsNext (C.shares calls.old) part.now at piece.now }
-    requires few { length piece.now ≤ C.piece calls.old }
+    requires few { length piece.now ≤ C.most_piece calls.old }
     ensures landed { OnOk result (C.shares calls.new ≡ added (C.shares calls.old) part.now.index piece.now) }
     ensures kept { OnErr result (C.shares calls.new ≡ C.shares calls.old) }
-    ensures limits { C.piece calls.new ≡ C.piece calls.old }
+    ensures limits { C.most_piece calls.new ≡ C.most_piece calls.old }
 {
     match calls.checkpoint() {
         Ok(()) => {}
@@ -31,10 +31,10 @@ pub fn land_piece<C: Calls>(
     piece: &[u8],
 ) -> Result<(), Refused>
     requires next { IsNext (C.shares calls.old) part.now at piece.now }
-    requires few { length piece.now ≤ C.piece calls.old }
+    requires few { length piece.now ≤ C.most_piece calls.old }
     ensures landed { OnOk result (C.shares calls.new ≡ added (C.shares calls.old) part.now.index piece.now) }
     ensures kept { OnErr result (C.shares calls.new ≡ C.shares calls.old) }
-    ensures limits { C.piece calls.new ≡ C.piece calls.old }
+    ensures limits { C.most_piece calls.new ≡ C.most_piece calls.old }
 {
     match calls.land(part, at, piece) {
         Ok(()) => Ok(()),

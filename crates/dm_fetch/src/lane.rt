@@ -111,7 +111,7 @@ pub fn turn_of<W: Wire, C: Calls>(
     buffer: &mut [u8],
 ) -> Result<Turn, Stop>
     requires room { 0 < length buffer.old }
-    requires few { length buffer.old ≤ C.piece calls.old }
+    requires few { length buffer.old ≤ C.most_piece calls.old }
     requires ready { IsReady W.tells W.told (C.shares calls.old) lane.old }
     ensures says { TurnSays W.tells W.told (C.shares calls.new) lane.new result }
     ensures stopped { W.tells → IfErr result (LaneStops W.told (C.shares calls.new) lane.new) }
@@ -121,7 +121,7 @@ pub fn turn_of<W: Wire, C: Calls>(
     ensures stays { W.purpose lane.new.wire ≡ W.purpose lane.old.wire }
     ensures sent { W.tells → (W.told lane.new.wire).sent ≡ (W.told lane.old.wire).sent }
     ensures grows { Grows lane.old.part.index (C.shares calls.old) (C.shares calls.new) }
-    ensures limits { C.piece calls.new ≡ C.piece calls.old }
+    ensures limits { C.most_piece calls.new ≡ C.most_piece calls.old }
 {
     let at = lane.at;
     match next_piece(lane, buffer) {

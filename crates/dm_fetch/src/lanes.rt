@@ -65,7 +65,7 @@ fn take_turn<N: Net, C: Calls>(
     buffer: &mut [u8],
 ) -> Result<(), Stop>
     requires room { 0 < length buffer.old }
-    requires few { length buffer.old ≤ C.piece calls.old }
+    requires few { length buffer.old ≤ C.most_piece calls.old }
     requires within { k < vec_len lanes.old }
     requires ready { AllByRecursion (IsReady N.W.tells N.W.told (C.shares calls.old)) lanes.old.items }
     requires once { (n : ℕ) → total (is_at n) lanes.old.items ≤ 1 }
@@ -79,7 +79,7 @@ fn take_turn<N: Net, C: Calls>(
     ensures smaller { OnOk result (left_of lanes.new.items < left_of lanes.old.items) }
     ensures capacity { vec_capacity lanes.new ≡ vec_capacity lanes.old }
     ensures keeps { Keeps (C.shares calls.old) (C.shares calls.new) }
-    ensures limits { C.piece calls.new ≡ C.piece calls.old }
+    ensures limits { C.most_piece calls.new ≡ C.most_piece calls.old }
     ensures later { NoneFell (N.faults net.old) (N.faults net.new) }
     ensures origin { N.origin_of net.new ≡ N.origin_of net.old }
 {
@@ -102,7 +102,7 @@ pub fn read_lanes<N: Net, C: Calls>(
     buffer: &mut [u8],
 ) -> Result<(), Stop>
     requires room { 0 < length buffer.old }
-    requires few { length buffer.old ≤ C.piece calls.old }
+    requires few { length buffer.old ≤ C.most_piece calls.old }
     requires ready { AllByRecursion (IsReady N.W.tells N.W.told (C.shares calls.old)) lanes.old.items }
     requires once { (n : ℕ) → total (is_at n) lanes.old.items ≤ 1 }
     ensures goes { (asking : Asking) (start : List Closed)
@@ -113,7 +113,7 @@ pub fn read_lanes<N: Net, C: Calls>(
     ensures left { OnErr result (AllByRecursion (IsLeft N.W.tells N.W.told (C.shares calls.new)) lanes.new.items) }
     ensures capacity { vec_capacity lanes.new ≡ vec_capacity lanes.old }
     ensures keeps { Keeps (C.shares calls.old) (C.shares calls.new) }
-    ensures limits { C.piece calls.new ≡ C.piece calls.old }
+    ensures limits { C.most_piece calls.new ≡ C.most_piece calls.old }
     ensures later { NoneFell (N.faults net.old) (N.faults net.new) }
     ensures origin { N.origin_of net.new ≡ N.origin_of net.old }
 {
@@ -150,7 +150,7 @@ pub fn run_round<N: Net, C: Calls>(
     turns: &[u8],
 ) -> Result<(), Stop>
     requires room { 0 < vec_len tools.old.buffer }
-    requires few { vec_len tools.old.buffer ≤ C.piece calls.old }
+    requires few { vec_len tools.old.buffer ≤ C.most_piece calls.old }
     requires ready { AllByRecursion (IsReady N.W.tells N.W.told (C.shares calls.old)) tools.old.lanes.items }
     requires once { (n : ℕ) → total (is_at n) tools.old.lanes.items ≤ 1 }
     ensures whole { OnOk result ((asking : Asking) (start : List Closed)
@@ -162,7 +162,7 @@ pub fn run_round<N: Net, C: Calls>(
     ensures none { tools.new.lanes.items ≡ [] }
     ensures capacity { vec_capacity tools.new.lanes ≡ vec_capacity tools.old.lanes }
     ensures keeps { Keeps (C.shares calls.old) (C.shares calls.new) }
-    ensures limits { C.piece calls.new ≡ C.piece calls.old }
+    ensures limits { C.most_piece calls.new ≡ C.most_piece calls.old }
     ensures later { NoneFell (N.faults net.old) (N.faults net.new) }
     ensures origin { N.origin_of net.new ≡ N.origin_of net.old }
 {

@@ -1,18 +1,26 @@
-use Rattle.std.proofs.Common.{List, ℕ, ◌+◌, ◌≤◌, arith}
-use Rattle.dm_fetch.specs.Lanes.{HasGiven}
+use Rattle.std.proofs.Common.{List, ℕ, ◌≤◌, ◌++◌, length, drop, sym, subst, arith}
+use Rattle.std.proofs.lemmas.List.{take-append-le}
+use Rattle.dm_reply.specs.Content.{HasRead}
 use Rattle.dm_fetch.proofs.Turns.{most_same, piece_fits}
 use Rattle.dm_fetch.proofs.lane.next_piece.Goals as goal
 
-pub moved-requires-clause-fits : goal.moved-requires-clause-fits
-moved-requires-clause-fits g c =
+pub moved-lane-requires : goal.moved-lane-requires
+moved-lane-requires g c =
     let keeps = rw c.in-Ok-Bytes.field-0-is at c.in-Ok-Bytes.ensures.keeps in
-    piece_fits c.args.lane.now c.room_of.result c.in-Ok-Bytes.count c.requires.on c.requires.at c.room_of.ensures.fits (omega (arith, keeps.1)) keeps.2
+    piece_fits c.args.lane.now c.room_of-room.result c.in-Ok-Bytes.count c.requires.on c.requires.at c.room_of-room.ensures.fits (omega (arith, keeps.1)) keeps.2
 
 pub returns-in-Ok-Bytes-clause-says : goal.returns-in-Ok-Bytes-clause-says
-returns-in-Ok-Bytes-clause-says g c tells bytes given = record {
-  head = given.head;
-  has = rw c.in-Ok-Bytes.field-0-is at (c.in-Ok-Bytes.ensures.says tells c.args.lane.now.reader.wanted given.head bytes given.has);
-}
+returns-in-Ok-Bytes-clause-says g c tells bytes given =
+    let n = c.in-Ok-Bytes.count in
+    let new = c.content.new in
+    let keeps = rw c.in-Ok-Bytes.field-0-is at c.in-Ok-Bytes.ensures.keeps in
+    let within : n ≤ length new.buf = omega (arith, keeps.1, c.content.auto.buf) in
+    record {
+      head = given.head;
+      has = subst (λ (piece : List ℕ). HasRead c.args.lane.now.reader.wanted given.head (g.W.Wire.told new.wire).given new.self (bytes ++ piece))
+          (sym (take-append-le n new.buf (drop c.room_of-room.result c.args.buffer.now) within))
+          (rw c.in-Ok-Bytes.field-0-is at (c.in-Ok-Bytes.ensures.says tells c.args.lane.now.reader.wanted given.head bytes given.has));
+    }
 
 pub returns-in-Ok-End-clause-says : goal.returns-in-Ok-End-clause-says
 returns-in-Ok-End-clause-says g c tells bytes given =

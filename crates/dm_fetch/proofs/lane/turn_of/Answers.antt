@@ -15,8 +15,8 @@ land_piece-requires-clause-next g c =
 pub next_piece-requires-clause-at : goal.next_piece-requires-clause-at
 next_piece-requires-clause-at g c = omega (arith, c.requires.ready.at, c.requires.ready.given)
 
-pub turn_at-requires-clause-within : goal.turn_at-requires-clause-within
-turn_at-requires-clause-within g c =
+pub turn_at-requires : goal.turn_at-requires
+turn_at-requires g c =
     let moves = rw c.in-Ok-Bytes.field-0-is at c.in-Ok-Bytes.ensures.moves in
     moves.3
 

@@ -14,8 +14,8 @@ invariant-loop-lanes g l =
     let shares = g.C.Calls.shares in
     record {
       room : 0 < length l.buffer;
-      few : length l.buffer ≤ g.C.Calls.piece l.calls;
-      limits : g.C.Calls.piece l.calls ≡ g.C.Calls.piece l.initial.calls;
+      few : length l.buffer ≤ g.C.Calls.most_piece l.calls;
+      limits : g.C.Calls.most_piece l.calls ≡ g.C.Calls.most_piece l.initial.calls;
       ready : AllByRecursion (IsReady W.tells W.told (shares l.calls)) l.lanes.items;
       once : (n : ℕ) → total (is_at n) l.lanes.items ≤ 1;
       goes : (asking : Asking) (start : List Closed) → InRound N.tells W.purpose W.told asking start (N.closed l.initial.net) (shares l.initial.calls) l.initial.lanes.items
