@@ -11,7 +11,7 @@ use Rattle.dm_types.specs.declared.reason.Reason.TheVariants as reasons
 use Rattle.dm_disk_model.specs.Disk.{History as Clock}
 use Rattle.dm_policy.specs.declared.cause.Cause.TheVariants as causes
 use Rattle.dm_item.specs.Fields.{no_bytes}
-use Rattle.dm_item.specs.Lawful.{History}
+use Rattle.dm_item.specs.Lawful.{History, KeepsHistory}
 use Rattle.dm_item.specs.Row.{is_cancelled}
 use Rattle.dm_store.specs.Becomes.{Recorded, lives_of, run_of}
 use Rattle.dm_store.specs.View.{spelled}
@@ -37,15 +37,17 @@ use Rattle.dm_answers.proofs.Rows.{Seen, arriving, counts, desk, desk_of, item_o
 abbrev behind : Seen → History → Seen
 behind old recorded = record old { items = run_of recorded old.items; lives = lives_of recorded old.items old.lives; list = old.list ++ recorded; gate = old.gate + spelled recorded }
 
-done : (old : Seen) (recorded : History) → old.broken ≡ false → old.failed ≡ [] → Recorded old (behind old recorded) recorded
-done old recorded whole none = record { whole = whole; items_are = refl; lives_are = refl; list_is = refl; gate_is = refl; failed_is = none; broken_is = whole; origin = refl; limits = refl }
+-- where they are lawful behind each history of its items
+done : (old : Seen) (recorded : History) → old.broken ≡ false → old.failed ≡ [] → KeepsHistory old.items (run_of recorded old.items) recorded → Recorded old (behind old recorded) recorded
+done old recorded whole none lawful = record { whole = whole; items_are = refl; lives_are = refl; list_is = refl; lawful = lawful; may = tt; gate_is = refl; failed_is = none; broken_is = whole; origin = refl; limits = refl }
 
 -- an item that waits, and of which nothing was told
 abbrev waiting : Item
 waiting = record arriving { phase = phases.Waiting; attempt = record { 0 = 0 }; begun = false; key = None; last_address = None; total = None; name = None; modified = None }
 
-row_fresh : (tells : Type 0) (clock : Unit {0} → Clock) → BeginAnswers tells clock counts (desk_of 6 waiting []) (behind (desk_of 6 waiting []) (entries.Began one (record { 0 = 1 }) User 7 ∷ [])) one User 7 (Ok (begun.Fresh whole_pass))
-row_fresh tells clock = record { item = waiting; there = refl; is = (record { may = refl; untold = refl; pass_is = refl }, done (desk_of 6 waiting []) (entries.Began one (record { 0 = 1 }) User 7 ∷ []) refl refl) }
+row_fresh : (tells : Type 0) (clock : Unit {0} → Clock) → KeepsHistory (desk_of 6 waiting []).items (run_of (entries.Began one (record { 0 = 1 }) User 7 ∷ []) (desk_of 6 waiting []).items) (entries.Began one (record { 0 = 1 }) User 7 ∷ [])
+    → BeginAnswers tells clock counts (desk_of 6 waiting []) (behind (desk_of 6 waiting []) (entries.Began one (record { 0 = 1 }) User 7 ∷ [])) one User 7 (Ok (begun.Fresh whole_pass))
+row_fresh tells clock lawful = record { item = waiting; there = refl; is = (record { may = refl; untold = refl; pass_is = refl }, done (desk_of 6 waiting []) (entries.Began one (record { 0 = 1 }) User 7 ∷ []) refl refl lawful) }
 
 row_begins_twice : (tells : Type 0) (clock : Unit {0} → Clock) → BeginAnswers tells clock counts desk desk one User 7 (Err (faults.WrongState phases.Running))
 row_begins_twice tells clock = record { whole = refl; cause = record { item = arriving; there = refl; is = (refl, refl) }; same = refl }
@@ -66,14 +68,14 @@ row_last_round = record {
   same = refl;
 }
 
-row_saved : CheckpointAnswers counts desk (behind desk (saving arriving life)) whole_pass (Ok tt)
-row_saved = record { item = arriving; there = refl; runs = refl; attempt_is = refl; life = life; lives = refl; is = record { saved = done desk (saving arriving life) refl refl; still = λ none. absurd (omega arith) } }
+row_saved : KeepsHistory desk.items (run_of (saving arriving life) desk.items) (saving arriving life) → CheckpointAnswers counts desk (behind desk (saving arriving life)) whole_pass (Ok tt)
+row_saved lawful = record { item = arriving; there = refl; runs = refl; attempt_is = refl; life = life; lives = refl; is = record { saved = done desk (saving arriving life) refl refl lawful; still = λ none. absurd (omega arith) } }
 
-row_interrupted : BrokeAnswers desk (behind desk (entries.Broke one reasons.NetworkFailed ∷ [])) whole_pass causes.HeadCut (Ok tt)
-row_interrupted = (record { item = arriving; there = refl; runs = refl; attempt_is = refl; life = life; lives = refl; is = tt }, done desk (entries.Broke one reasons.NetworkFailed ∷ []) refl refl)
+row_interrupted : KeepsHistory desk.items (run_of (entries.Broke one reasons.NetworkFailed ∷ []) desk.items) (entries.Broke one reasons.NetworkFailed ∷ []) → BrokeAnswers desk (behind desk (entries.Broke one reasons.NetworkFailed ∷ [])) whole_pass causes.HeadCut (Ok tt)
+row_interrupted lawful = (record { item = arriving; there = refl; runs = refl; attempt_is = refl; life = life; lives = refl; is = tt }, done desk (entries.Broke one reasons.NetworkFailed ∷ []) refl refl lawful)
 
-row_paused : PauseAnswers counts desk (behind desk (pausing arriving (Some life))) one (Ok tt)
-row_paused = inr (record { item = arriving; there = refl; is = (refl, done desk (pausing arriving (Some life)) refl refl) })
+row_paused : KeepsHistory desk.items (run_of (pausing arriving (Some life)) desk.items) (pausing arriving (Some life)) → PauseAnswers counts desk (behind desk (pausing arriving (Some life))) one (Ok tt)
+row_paused lawful = inr (record { item = arriving; there = refl; is = (refl, done desk (pausing arriving (Some life)) refl refl lawful) })
 
 row_paused_twice : PauseAnswers counts (desk_of 6 (item_of phases.Paused None strong no_bytes) []) (desk_of 6 (item_of phases.Paused None strong no_bytes) []) one (Ok tt)
 row_paused_twice = inl (record { whole = refl; cause = record { item = item_of phases.Paused None strong no_bytes; there = refl; is = refl }; same = refl })
@@ -84,8 +86,8 @@ row_cancels_twice = inl (record { whole = refl; cause = refl; same = refl })
 row_removes_running : ChangeAnswers in_no_phase (entries.Removed one) one desk desk (Err (faults.WrongState phases.Running))
 row_removes_running = record { whole = refl; cause = record { phase_is = refl; not_left = refl; row = λ row. false≢true row.0 }; same = refl }
 
-row_shuts : ShutAnswers desk (behind desk (shuts (arriving ∷ []))) (Ok tt)
-row_shuts = done desk (shuts (arriving ∷ [])) refl refl
+row_shuts : KeepsHistory desk.items (run_of (shuts (arriving ∷ [])) desk.items) (shuts (arriving ∷ [])) → ShutAnswers desk (behind desk (shuts (arriving ∷ []))) (Ok tt)
+row_shuts lawful = done desk (shuts (arriving ∷ [])) refl refl lawful
 
 row_finishes_untold : (tells : Type 0) (clock : Unit {0} → Clock) → FinishAnswers tells clock counts (desk_of 6 (record arriving { key = None }) (life ∷ [])) (desk_of 6 (record arriving { key = None }) (life ∷ [])) whole_pass 7 (Err (faults.WrongState phases.Running))
 row_finishes_untold tells clock = record {

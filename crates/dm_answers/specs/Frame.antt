@@ -7,10 +7,10 @@ use Rattle.dm_types.specs.declared.item.ItemId.{ItemId}
 use Rattle.dm_types.specs.declared.kinds.DiskKind.{DiskKind}
 use Rattle.dm_disk_model.specs.Disk.{History as Clock, bytes_at, now}
 use Rattle.dm_policy.specs.Cause.{reason_of_file}
-use Rattle.dm_item.specs.Lawful.{History}
+use Rattle.dm_item.specs.Lawful.{History, KeepsHistory}
 use Rattle.dm_part.specs.Laws.{files_place}
 use Rattle.dm_store.specs.declared.life.Life.{Life}
-use Rattle.dm_store.specs.Becomes.{Fell, run_of}
+use Rattle.dm_store.specs.Becomes.{Fell, MayTry, run_of}
 use Rattle.dm_store.specs.Lives.{changed_life}
 use Rattle.dm_store.specs.View.{View, spelled}
 
@@ -37,8 +37,10 @@ pub record Went {D O : Type 0} (old new : View D O) (recorded failed : History) 
   pub whole : old.broken ≡ false
   pub items_are : new.items ≡ run_of recorded old.items
   pub list_is : new.list ≡ old.list ++ recorded
+  pub lawful : KeepsHistory old.items new.items recorded
   pub gate_is : new.gate ≡ old.gate + spelled recorded
   pub failed_is : new.failed ≡ failed
+  pub may : MayTry new.items failed
   pub broken_is : new.broken ≡ broken
   pub origin : new.origin ≡ old.origin
   pub limits : new.limits ≡ old.limits

@@ -17,7 +17,7 @@ use Rattle.dm_kept.specs.Recovery.{Found, Through}
 use Rattle.dm_kept.specs.Room.{IsTaken}
 use Rattle.dm_kept.specs.Spelled.{Records, bodies_of}
 use Rattle.dm_store.specs.Keeps.{HoldsOf}
-use Rattle.dm_store.specs.View.{View}
+use Rattle.dm_store.specs.View.{View, spelled}
 use Rattle.dm_answers.specs.declared.fault.DeskFault.{DeskFault}
 use Rattle.dm_answers.specs.declared.fault.DeskFault.TheVariants as faults
 use Rattle.dm_answers.specs.declared.fault.OpenFault.{OpenFault}
@@ -53,6 +53,15 @@ abbrev pub OpenKeeps : Type 0 → Says → Clock → Clock → ℕ → Type 0
 OpenKeeps tells says start end at = (earlier more : History) → Kept true says (Through earlier more) (now start)
     → Throughout start end (Kept true says (λ recovered. Through earlier more recovered ⊎ OpensTo tells start end at recovered))
 
+-- what one at the start might have, or what was found with some of the tried entries behind it
+abbrev pub LeavesSome : DiskState → History → History → DiskState → Type 0
+LeavesSome start found tried disk = (image : Image) → MayLeave disk image → WasLeft start image ⊎ Recovers false says_all (Through found tried) disk.files image
+
+-- Each moment of an opening leaves what the start might have left, or what was found with some of the tried entries behind it; from a kept disk it is sound too.
+pub record OpenRuns (says : Says) (start end : Clock) (found tried : History) : Type 0 where
+  pub leaves : Throughout start end (LeavesSome (now start) found tried)
+  pub keeps : (kept rest : History) → Kept true says (Through kept rest) (now start) → Throughout start end (Kept true says (λ recovered. Through kept rest recovered ⊎ Through found tried recovered))
+
 -- The journal of these entries doesn't end above 2^62, so the count of far writes stays.
 abbrev pub IsNear : History → ℕ → ℕ → Type 0
 IsNear history far far' = length (front (bodies_of history)) + 1 ≤ 2 ^ 62 → far' ≡ far
@@ -64,7 +73,9 @@ pub record IsOpened {D O : Type 0} (tells : Type 0) (clock : D → Clock) (far :
   pub found : History
   pub taken : IsTaken desk.limits.items found
   pub tried : IsTried tells (clock start) (clock desk.disk) at found desk.list []
+  pub runs : tells → OpenRuns says (clock start) (clock desk.disk) found desk.list
   pub items : IsOf (found ++ desk.list) desk.items
+  pub gate_is : desk.gate ≡ length (front (bodies_of found)) + spelled desk.list
   -- it holds them, with the files of all items where the disk was kept
   pub holds : tells → (good : Bool) → WasKept good says (now (clock start)) → HoldsOf good says clock desk (found ++ desk.list)
   -- and then no item is interrupted
@@ -99,14 +110,17 @@ pub record IsUntried {D : Type 0} (clock : D → Clock) (far : D → ℕ) (start
   pub images : OnlyBefore (clock start) (clock end)
   pub near : far end ≡ far start
 
--- the journal was read whole, and each image recovers to what it held, with some of what was tried behind it
-pub record IsRead {D : Type 0} (tells : Type 0) (clock : D → Clock) (far : D → ℕ) (start end : D) (at : ℕ) : Type 0 where
+-- The journal was read whole, and of what was tried these entries were recorded, and then those failed: each image recovers to what was recorded, or with the failed one too.
+pub record IsRead {D : Type 0} (tells : Type 0) (clock : D → Clock) (far : D → ℕ) (says : Says) (start end : D) (at : ℕ) : Type 0 where
   pub found : History
-  pub tried : History
+  pub recorded : History
+  pub failed : History
+  pub rest : History
   pub left : List Item
-  pub is : IsTried tells (clock start) (clock end) at found tried left
-  pub kept : Kept false says_all (Through found tried) (now (clock end))
-  pub near : IsNear (found ++ tried) (far start) (far end)
+  pub is : IsTried tells (clock start) (clock end) at found (recorded ++ (failed ++ rest)) left
+  pub runs : OpenRuns says (clock start) (clock end) found (recorded ++ (failed ++ rest))
+  pub kept : (good : Bool) → WasKept good says (now (clock start)) → Kept good says (Through (found ++ recorded) failed) (now (clock end))
+  pub near : IsNear (found ++ (recorded ++ (failed ++ rest))) (far start) (far end)
 
 -- the disk that is handed back, in the desk or beside the fault
 abbrev pub disk_in : {D : Type 0} → OpenFault D → D
@@ -119,10 +133,10 @@ disk_of (Ok desk) = desk.disk
 disk_of (Err fault) = disk_in fault
 
 -- what a refused opening leaves, by the fault, on a disk that tells what it holds
-abbrev pub OpenFails : {D : Type 0} → Type 0 → (D → Clock) → (D → ℕ) → D → ℕ → ℕ → OpenFault D → Type 0
-OpenFails tells clock far start limit at (opens.Damaged place disk) = IsDamaged clock far start disk limit place
-OpenFails tells clock far start limit at (opens.Disk kind disk) = IsUntried clock far start disk ⊎ IsRead tells clock far start disk at
-OpenFails tells clock far start limit at (opens.NoMemory disk) = IsUntried clock far start disk ⊎ IsRead tells clock far start disk at
+abbrev pub OpenFails : {D : Type 0} → Type 0 → (D → Clock) → (D → ℕ) → Says → D → ℕ → ℕ → OpenFault D → Type 0
+OpenFails tells clock far says start limit at (opens.Damaged place disk) = IsDamaged clock far start disk limit place
+OpenFails tells clock far says start limit at (opens.Disk kind disk) = IsUntried clock far start disk ⊎ IsRead tells clock far says start disk at
+OpenFails tells clock far says start limit at (opens.NoMemory disk) = IsUntried clock far start disk ⊎ IsRead tells clock far says start disk at
 
 -- a new desk has the origin and the limits that were handed in
 pub record IsMade {D O : Type 0} (origin : O) (limits : Limits) (desk : View D O) : Type 0 where
@@ -148,6 +162,7 @@ pub record StaysRead {D O : Type 0} (tells : Type 0) (clock : D → Clock) (far 
   pub rest : History
   pub left : List Item
   pub tried : IsTried tells (clock old.disk) (clock new.disk) at found (new.list ++ (new.failed ++ rest)) left
+  pub runs : tells → OpenRuns says (clock old.disk) (clock new.disk) found (new.list ++ (new.failed ++ rest))
   pub items : IsOf (found ++ new.list) new.items
   pub holds : tells → (good : Bool) → WasKept good says (now (clock old.disk)) → HoldsOf good says clock new (found ++ new.list)
   pub near : tells → IsNear (found ++ (new.list ++ new.failed)) (far old.disk) (far new.disk)
@@ -157,7 +172,7 @@ abbrev pub RefusedReopening : {D O : Type 0} → Type 0 → (D → Clock) → (D
 RefusedReopening tells clock far says at old new (faults.Damaged place) =
     (new ≡ record old { disk = new.disk; broken = true }) × (tells → IsDamaged clock far old.disk new.disk old.limits.items place)
 RefusedReopening tells clock far says at old new (faults.Journal kind) = StaysUnread tells clock far says old new ⊎ StaysRead tells clock far says at old new
-RefusedReopening tells clock far says at old new faults.NoMemory = StaysUnread tells clock far says old new ⊎ StaysRead tells clock far says at old new
+RefusedReopening tells clock far says at old new faults.NoMemory = StaysUnread tells clock far says old new ⊎ (StaysRead tells clock far says at old new × (new.failed ≡ []))
 RefusedReopening tells clock far says at old new _ = ⊥
 
 -- what a reopening that was answered Ok keeps of the desk beside
@@ -174,4 +189,4 @@ ReopenAnswers tells clock far says at old new (Err fault) = RefusedReopening tel
 -- Each answer of an opening, with its cause and what it leaves.
 abbrev pub OpenAnswers : {D O : Type 0} → Type 0 → (D → Clock) → (D → ℕ) → Says → D → O → Limits → ℕ → Result (View D O) (OpenFault D) → Type 0
 OpenAnswers tells clock far says start origin limits at (Ok desk) = IsMade origin limits desk × IsOpened tells clock far says start at desk
-OpenAnswers tells clock far says start origin limits at (Err fault) = tells → OpenFails tells clock far start limits.items at fault
+OpenAnswers tells clock far says start origin limits at (Err fault) = tells → OpenFails tells clock far says start limits.items at fault

@@ -1,5 +1,5 @@
 -- How an opening settles the items that are being finished.
-use Rattle.std.specs.Prelude.{◌≡◌, ℕ, ◌≤◌, Bool, true, false, nat_lt, cond, not, List, [], ◌∷◌, length, take, filter, Option, Some, None, is_some, IfSome}
+use Rattle.std.specs.Prelude.{◌≡◌, ℕ, ◌≤◌, Bool, true, false, nat_lt, cond, not, List, [], ◌∷◌, length, take, filter, Option, Some, None, is_some, IfSome, IsSome}
 use Rattle.std.specs.Str.{bytes_eq}
 use Rattle.sha2.specs.Sha256.{sha256}
 use Rattle.dm_types.specs.declared.entry.Entry.{Entry}
@@ -50,11 +50,11 @@ pub record WasAt (old new : Clock) (place : Place) (P : Option (List ℕ) → Ty
   pub to : moment ≤ new.moment
   pub is : P (bytes_at (new.at moment) place)
 
--- by what stood at the start, of the part and of the name: both, none, or one whose bytes decide
+-- By what stood at the start, of the part and of the name: both, none, or one whose bytes decide. A part that stood alone stands then.
 abbrev pub SettledAs : Clock → Clock → ℕ → Item → Bool → Bool → Entry → Type 0
 SettledAs start end at item true true entry = entry ≡ entries.Broke item.id reasons.FileFailed
 SettledAs start end at item false false entry = entry ≡ entries.Broke item.id reasons.FileTooShort
-SettledAs start end at item true false entry = WasAt start end (part_place item.id.0 item.epoch.0) (λ found. entry ≡ settled_of item at found)
+SettledAs start end at item true false entry = WasAt start end (part_place item.id.0 item.epoch.0) (λ found. IsSome found × (entry ≡ settled_of item at found))
 SettledAs start end at item false true entry = WasAt start end (name_place item) (λ found. entry ≡ settled_of item at found)
 
 abbrev pub stands : Clock → Place → Bool

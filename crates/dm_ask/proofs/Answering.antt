@@ -31,6 +31,7 @@ pub is_ready : (wanted : Wanted) (made_for : Address → Purpose) (first address
     → IsContent wanted made_for reader head key → (IsRead first.text first → IsRead address.text address) → IsReady wanted made_for first reader head address key
 is_ready wanted made_for first address reader head key is reads = record {
   kind_is = is.kind_is;
+  wanted_is = is.heard.wanted_is;
   plain = is.heard.plain;
   framed = subst (IsFramedAs wanted head reader) is.kind_is is.heard.framed;
   unread = is.heard.unread;

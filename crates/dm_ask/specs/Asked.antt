@@ -23,10 +23,11 @@ use Rattle.dm_ask.specs.Redirects.{most_redirects, Led}
 abbrev pub IsAim : Wanted → Aim → Type 0
 IsAim wanted aim = aim.request ≡ request_of aim.address (ask_of wanted)
 
--- What is handed out, over any net: a head of content, of which nothing was given, the key of the head, and an address that is read of its own text where
--- the first one is.
+-- What is handed out, over any net: a reader of what is wanted, a head of content, of which nothing was given, the key of the head, and an address that
+-- is read of its own text where the first one is.
 pub record IsReady (wanted : Wanted) (made_for : Address → Purpose) (first : Address) (reader : Reader) (head : Head) (address : Address) (key : Key) : Type 0 where
   pub kind_is : head.kind ≡ kind.Content
+  pub wanted_is : reader.wanted ≡ wanted
   pub plain : IsPlainHead wanted head
   pub framed : IsFramedAs wanted head reader kind.Content
   pub unread : reader.reading.given ≡ 0

@@ -31,8 +31,10 @@ abbrev pub head_cause : HeadFault → Cause
 head_cause (fault.Broke broke) = broke
 head_cause fault.NoMemory = cause.Memory
 
--- What a reader has behind a head, whatever its wire tells: nothing was given and nothing broke it, and the head and the reader say the same lengths.
+-- What a reader has behind a head, whatever its wire tells: it is one of what is wanted, nothing was given and nothing broke it, and the head and the
+-- reader say the same lengths.
 pub record IsHeard (wanted : Wanted) (reader : Reader) (head : Head) : Type 0 where
+  pub wanted_is : reader.wanted ≡ wanted
   pub plain : IsPlainHead wanted head
   pub framed : IsFramedAs wanted head reader head.kind
   pub unread : reader.reading.given ≡ 0

@@ -2,10 +2,11 @@
 ghost use Rattle.std.specs.Prelude.{◌≡◌, ◌≢◌, IfOk};
 ghost use Rattle.dm_types.specs.Faults.{NoneFell};
 ghost use Rattle.dm_policy.specs.declared.cause.Cause.TheVariants as cause;
-ghost use Rattle.dm_edge.specs.Fair.{IsOrdered};
+ghost use Rattle.dm_edge.specs.Fair.{ask_of, IsOrdered};
+ghost use Rattle.dm_request.specs.Request.{request_of};
 ghost use Rattle.dm_ask.specs.Asked.{IsAim, IsReady, IsReached, IfContent, IfStopped, IfBroke, asked_of};
 ghost use Rattle.dm_ask.specs.Causes.{IsAskCause};
-ghost use Rattle.dm_ask.specs.Following.{IsStopped};
+ghost use Rattle.dm_ask.specs.Following.{IsAnswered, IsPart, IsStopped};
 ghost use Rattle.dm_ask.specs.Redirects.{purpose_of};
 
 use crate::aim::{Aim, aim_at};
@@ -68,8 +69,11 @@ pub fn ask<N: Net>(
 ) -> Asked<N::W>
     requires ordered { IsOrdered wanted }
     ensures ready { IfContent result (λ wire reader head at key. IsReady wanted (purpose_of id attempt) address.now reader head at key) }
+    ensures heard { N.W.tells → IfContent result (λ wire reader head at key. IsAnswered wanted (purpose_of id attempt at) (request_of at (ask_of wanted))
+        (N.W.purpose wire) (N.W.told wire) reader head) }
     ensures reached { N.tells → IfContent result (λ wire reader head at key. IsReached wanted (purpose_of id attempt) address.now (N.closed net.old) (N.closed net.new)
         (record { purpose = N.W.purpose wire; told = N.W.told wire; counts = N.W.faults wire }) reader head at) }
+    ensures direct { IsPart wanted → IfContent result (λ wire reader head at key. at ≡ address.now) }
     ensures stopped { N.tells → IfStopped result (IsStopped wanted (purpose_of id attempt) address.now
         (N.faults net.old) (N.faults net.new) (N.closed net.old) (N.closed net.new)) }
     ensures shown { IfStopped result (IsAskCause (N.faults net.old) (N.faults net.new)) }

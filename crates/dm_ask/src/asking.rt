@@ -154,7 +154,7 @@ fn hear<N: Net>(
 ) -> Result<Answered<N::W>, NoContent>
     requires unread { reader ≡ unread reader.wanted }
     requires unfailed { (kind : OnWire) → N.W.faults wire kind ≡ 0 }
-    ensures content { N.tells → IsFresh (N.W.told wire) → N.W.purpose wire ≡ purpose_of id attempt aim.now.address
+    ensures content { N.W.tells → IsFresh (N.W.told wire) → N.W.purpose wire ≡ purpose_of id attempt aim.now.address
         → IfOk result (λ answered. IsAnswered reader.wanted (purpose_of id attempt aim.now.address) aim.now.request
         (N.W.purpose answered.wire) (N.W.told answered.wire) answered.reader answered.head) }
     ensures heard { IfOk result (λ answered. IsContent reader.wanted (purpose_of id attempt) answered.reader answered.head answered.key) }
@@ -200,7 +200,7 @@ pub fn ask_once<N: Net>(
     attempt: Attempt,
     wanted: Wanted,
 ) -> Result<Answered<N::W>, NoContent>
-    ensures content { N.tells
+    ensures content { N.W.tells
         → IfOk result (λ answered. IsAnswered wanted (purpose_of id attempt aim.now.address) aim.now.request
         (N.W.purpose answered.wire) (N.W.told answered.wire) answered.reader answered.head) }
     ensures heard { IfOk result (λ answered. IsContent wanted (purpose_of id attempt) answered.reader answered.head answered.key) }

@@ -2,11 +2,13 @@
 ghost use Rattle.std.specs.Prelude.{◌≡◌, ◌⊎◌, ◌<◌, ◌≤◌, IfOk, IfErr};
 ghost use Rattle.dm_types.specs.Faults.{NoneFell};
 ghost use Rattle.dm_policy.specs.declared.cause.Cause.TheVariants as cause;
+ghost use Rattle.dm_edge.specs.Fair.{ask_of};
 ghost use Rattle.dm_edge.specs.declared.wanted.Wanted.TheVariants as asks;
 ghost use Rattle.dm_request.specs.Fault.{IsRead};
+ghost use Rattle.dm_request.specs.Request.{request_of};
 ghost use Rattle.dm_ask.specs.Asked.{IsAim, IsReady, IsReached};
 ghost use Rattle.dm_ask.specs.Causes.{IsAskCause};
-ghost use Rattle.dm_ask.specs.Following.{GoesTo, StopsBy, IsStopped, IsCause, IsPart};
+ghost use Rattle.dm_ask.specs.Following.{IsAnswered, GoesTo, StopsBy, IsStopped, IsCause, IsPart};
 ghost use Rattle.dm_ask.specs.Redirects.{most_redirects, purpose_of};
 ghost use Rattle.dm_ask.specs.declared.asking.NoContent.TheVariants as none_as;
 
@@ -104,6 +106,8 @@ pub fn follow<N: Net>(
 ) -> Result<Reached<N::W>, Cause>
     requires request { IsAim asks.Whole first }
     ensures ready { IfOk result (λ found. IsReady asks.Whole (purpose_of id attempt) first.address found.reader found.head found.address found.key) }
+    ensures heard { N.W.tells → IfOk result (λ found. IsAnswered asks.Whole (purpose_of id attempt found.address) (request_of found.address (ask_of asks.Whole))
+        (N.W.purpose found.wire) (N.W.told found.wire) found.reader found.head) }
     ensures reached { N.tells → IfOk result (λ found. IsReached asks.Whole (purpose_of id attempt) first.address (N.closed net.old) (N.closed net.new)
         (record { purpose = N.W.purpose found.wire; told = N.W.told found.wire; counts = N.W.faults found.wire }) found.reader found.head found.address) }
     ensures stopped { N.tells → IfErr result (IsStopped asks.Whole (purpose_of id attempt) first.address
@@ -150,8 +154,11 @@ pub fn ask_part<N: Net>(
     requires part { IsPart wanted }
     requires request { IsAim wanted aim }
     ensures ready { IfOk result (λ found. IsReady wanted (purpose_of id attempt) aim.address found.reader found.head found.address found.key) }
+    ensures heard { N.W.tells → IfOk result (λ found. IsAnswered wanted (purpose_of id attempt found.address) (request_of found.address (ask_of wanted))
+        (N.W.purpose found.wire) (N.W.told found.wire) found.reader found.head) }
     ensures reached { N.tells → IfOk result (λ found. IsReached wanted (purpose_of id attempt) aim.address (N.closed net.old) (N.closed net.new)
         (record { purpose = N.W.purpose found.wire; told = N.W.told found.wire; counts = N.W.faults found.wire }) found.reader found.head found.address) }
+    ensures direct { IfOk result (λ found. found.address ≡ aim.address) }
     ensures stopped { N.tells → IfErr result (IsStopped wanted (purpose_of id attempt) aim.address
         (N.faults net.old) (N.faults net.new) (N.closed net.old) (N.closed net.new)) }
     ensures shown { IfErr result (IsAskCause (N.faults net.old) (N.faults net.new)) }
@@ -176,8 +183,11 @@ pub fn reach<N: Net>(
 ) -> Result<Reached<N::W>, Cause>
     requires request { IsAim wanted aim }
     ensures ready { IfOk result (λ found. IsReady wanted (purpose_of id attempt) aim.address found.reader found.head found.address found.key) }
+    ensures heard { N.W.tells → IfOk result (λ found. IsAnswered wanted (purpose_of id attempt found.address) (request_of found.address (ask_of wanted))
+        (N.W.purpose found.wire) (N.W.told found.wire) found.reader found.head) }
     ensures reached { N.tells → IfOk result (λ found. IsReached wanted (purpose_of id attempt) aim.address (N.closed net.old) (N.closed net.new)
         (record { purpose = N.W.purpose found.wire; told = N.W.told found.wire; counts = N.W.faults found.wire }) found.reader found.head found.address) }
+    ensures direct { IsPart wanted → IfOk result (λ found. found.address ≡ aim.address) }
     ensures stopped { N.tells → IfErr result (IsStopped wanted (purpose_of id attempt) aim.address
         (N.faults net.old) (N.faults net.new) (N.closed net.old) (N.closed net.new)) }
     ensures shown { IfErr result (IsAskCause (N.faults net.old) (N.faults net.new)) }

@@ -9,11 +9,8 @@ ghost use Rattle.dm_head.specs.Whole.{IsFramed, framing_by};
 
 use crate::fields::{Values, is_plain, values_of};
 use crate::lengths::{ToldLength, length_of};
-use dm_edge::Framing;
+use dm_edge::{Framing, MOST_CONTENT};
 use httparse::spans::HeaderSpan;
-
-/// The most bytes that a content may have.
-pub const MOST_CONTENT: u64 = 1 << 40;
 
 /// Whether and how the content can be read.
 #[derive(Clone, Copy)]

@@ -7,16 +7,10 @@ ghost use Rattle.dm_head.specs.Look.{Finds};
 use crate::metadata::Metadata;
 use crate::part::Extent;
 use crate::whole::look_at_whole;
-use dm_edge::{Framing, Wanted};
+use dm_edge::{Framing, MOST_FIELDS, MOST_HEAD, Wanted};
 use dm_policy::Cause;
 use httparse::Status;
 use httparse::spans::{EMPTY_HEADER_SPAN, Span, parse_response};
-
-/// The most bytes of a head, with its empty line.
-const MOST_HEAD: usize = 65_536;
-
-/// The most fields of a head.
-const MOST_FIELDS: usize = 100;
 
 /// What stands at the front of a stream, behind the interim heads that were passed over.
 #[derive(Clone, Copy, Debug, PartialEq, Eq)]

@@ -8,14 +8,9 @@ ghost use Rattle.dm_head.specs.Metadata.{IsMetadata, CoversStrong, CoversOnly, I
 ghost use Rattle.dm_head.specs.Values.{kept};
 
 use crate::fields::{Values, is_named, values_of};
+use dm_edge::{MOST_MODIFIED, MOST_TAG};
 use dm_tag::{read_tag, takes_ranges};
 use httparse::spans::{HeaderSpan, Span};
-
-/// The most bytes of an entity tag that is kept, with its quotes.
-const MOST_TAG: usize = 1_024;
-
-/// The most bytes of a Last-Modified that is kept.
-const MOST_MODIFIED: usize = 128;
 
 /// Covers no byte.
 const NOTHING: Span = Span { start: 0, end: 0 };

@@ -10,9 +10,9 @@ ghost use Rattle.dm_edge.specs.declared.wanted.Wanted.TheVariants.{Part, Whole};
 ghost use Rattle.dm_head.specs.Fit.{IsFit, IsPlace, RangePart};
 
 use crate::fields::{Values, values_of};
-use crate::framing::{MOST_CONTENT, too_large};
+use crate::framing::too_large;
 use crate::metadata::strong_of;
-use dm_edge::{Framing, Wanted};
+use dm_edge::{Framing, MOST_CONTENT, Wanted};
 use dm_tag::{ContentRange, read_content_range};
 use httparse::spans::HeaderSpan;
 

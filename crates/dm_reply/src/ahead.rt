@@ -7,13 +7,10 @@ ghost use Rattle.dm_edge.specs.Wire.{WantsBy};
 ghost use Rattle.dm_reply.specs.Ahead.{Grows, Stays};
 ghost use Rattle.dm_reply.specs.Reads.{OnlyReads};
 
-use dm_edge::{Wire, WireFault};
+use dm_edge::{MOST_HEAD, Wire, WireFault};
 use dm_types::NoMemory;
 use std::alloc::Global;
 use std::marker::Model;
-
-/// The most bytes of a head, with its empty line.
-pub const MOST_HEAD: usize = 65_536;
 
 /// A buffer of 65,536 bytes for what lies ahead.
 #[derive(Drop)]

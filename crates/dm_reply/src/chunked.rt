@@ -14,9 +14,9 @@ ghost use Rattle.dm_reply.specs.declared.body.Body.TheVariants as body;
 
 use crate::Got;
 use crate::ahead::Ahead;
-use crate::plain::{MOST_CONTENT, least};
+use crate::plain::least;
 use dm_chunk::{Chunks, Step};
-use dm_edge::{Wire, wire_cause};
+use dm_edge::{MOST_CONTENT, Wire, wire_cause};
 use dm_policy::Cause;
 
 /// The next data of the chunks. Behind 2^40 bytes of it the decoder is still asked for one, and none is to come. The

@@ -18,11 +18,8 @@ ghost use Rattle.dm_reply.specs.declared.got.Got.TheVariants as got;
 
 use crate::Got;
 use crate::ahead::Ahead;
-use dm_edge::{Wire, WireFault, wire_cause};
+use dm_edge::{MOST_CONTENT, Wire, WireFault, wire_cause};
 use dm_policy::Cause;
-
-/// The most bytes that a content may have.
-pub const MOST_CONTENT: u64 = 1 << 40;
 
 /// The next bytes of a counted content. It receives at most what is lacking.
 pub fn give_counted<W: Wire>(

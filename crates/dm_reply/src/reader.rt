@@ -72,6 +72,7 @@ impl ReplyReader {
         requires { self.old ≡ unread self.old.wanted }
         ensures says { W.tells → (W.told wire.old).given ≡ []
             → IfOk result (HeadSays self.old.wanted (W.told wire.new) self.new) }
+        ensures wanted { self.new.wanted ≡ self.old.wanted }
         ensures plain { IfOk result (IsPlainHead self.old.wanted) }
         ensures fresh { IfOk result (λ head. (self.new.reading.given ≡ 0) × (self.new.reading.broke ≡ None)) }
         ensures size { IfOk result (λ head. self.new.size ≡ size_told (extent_of head)) }

@@ -17,17 +17,14 @@ ghost use Rattle.dm_reply.specs.Steps.{most_of, head_fault_of};
 ghost use Rattle.dm_reply.specs.declared.receiving.Came.TheVariants as came_as;
 
 use crate::HeadFault;
-use crate::ahead::{Ahead, MOST_HEAD};
+use crate::ahead::Ahead;
 use crate::found::{Found, content_head, redirect_head};
 use crate::lines::Lines;
 use crate::part::content_status;
-use dm_edge::{Wanted, Wire, WireFault};
+use dm_edge::{MOST_HEAD, MOST_INTERIM, Wanted, Wire, WireFault};
 use dm_head::{Look, look_at};
 use dm_policy::Cause;
 use std::alloc::Global;
-
-/// The most interim heads that are passed over.
-const MOST_INTERIM: u32 = 8;
 
 /// What the last receives brought.
 #[derive(Clone, Copy)]

@@ -1,5 +1,5 @@
 -- What is kept where an attempt is interrupted.
-use Rattle.std.proofs.Common.{◌≡◌, ◌≢◌, ℕ, ◌+◌, ◌*◌, ◌≤◌, Bool, true, false, ◌||◌, IsTrue, List, [], ◌∷◌, ◌++◌, length, Option, Some, None, refl, sym, ◌∙◌, ap, subst, arith}
+use Rattle.std.proofs.Common.{◌≡◌, ◌≢◌, ℕ, ◌+◌, ◌*◌, ◌≤◌, Bool, false, ◌||◌, IsTrue, List, ◌++◌, length, Option, Some, None, refl, sym, subst, arith}
 use Rattle.std.specs.Prelude.{IsSome, OnOk, Result, Ok, Err}
 use Rattle.std.proofs.lemmas.Bool.{false≢true}
 use Rattle.dm_types.specs.declared.entry.Entry.TheVariants as entries
@@ -12,15 +12,15 @@ use Rattle.dm_types.specs.declared.reason.Reason.TheVariants as reasons
 use Rattle.dm_disk_model.specs.Disk.{History as Clock, now}
 use Rattle.dm_item.specs.Fields.{is_running}
 use Rattle.dm_item.specs.Lawful.{History, items_of}
-use Rattle.dm_item.specs.Listing.{Admits, Listing, Meets, Row, applied, item_in}
+use Rattle.dm_item.specs.Listing.{Admits, Row, applied, item_in}
 use Rattle.dm_item.specs.Row.{is_finishing}
-use Rattle.dm_kept.specs.Files.{EndsLive, Facts, IfGood, PartsStand, Says, says_all}
+use Rattle.dm_kept.specs.Files.{EndsLive, Facts, PartsStand, Says, says_all}
 use Rattle.dm_kept.proofs.Entered.{facts_broke, items_are}
 use Rattle.dm_kept.proofs.Flags.{if_map}
 use Rattle.dm_kept.proofs.Standing.{ends_over, stand_over}
 use Rattle.dm_store.specs.declared.life.Life.{Life}
 use Rattle.dm_store.specs.Keeps.{Allows, HoldsOf, IsDesk, Keeps, RecordGoes, StandBehind}
-use Rattle.dm_store.specs.Lives.{AreAfter, AreLives, covers_of, life_in, without_life}
+use Rattle.dm_store.specs.Lives.{AreAfter, covers_of, life_in, without_life}
 use Rattle.dm_store.specs.View.{View}
 use Rattle.dm_store.proofs.Keeping.{at_rest}
 use Rattle.dm_store.proofs.Lives.{covers_less, covers_others, fewer_lives, lives_ended, lives_run, lives_there}

@@ -1,5 +1,5 @@
 -- What recording an entry keeps, and how calls compose.
-use Rattle.std.proofs.Common.{◌≡◌, ◌⊎◌, inl, inr, ℕ, ◌+◌, ◌≤◌, ◌^◌, Bool, true, false, IsTrue, List, [], ◌∷◌, ◌++◌, length, drop, Result, Ok, Err, refl, sym, ◌∙◌, ap, subst, append_assoc, arith}
+use Rattle.std.proofs.Common.{◌≡◌, ℕ, ◌+◌, ◌<◌, ◌≤◌, ◌^◌, Bool, true, false, List, [], ◌∷◌, ◌++◌, length, drop, Result, refl, sym, ◌∙◌, ap, subst, append_assoc, arith}
 use Rattle.std.proofs.lemmas.List.{append-nil}
 use Rattle.std.proofs.lemmas.Bool.{false≢true}
 use Rattle.std.proofs.Math.Seq.{drop-append_seam, drop-length}
@@ -26,7 +26,7 @@ use Rattle.dm_part.proofs.Turns.{over_one}
 use Rattle.dm_kept.specs.Files.{Covers, EndsLive, Facts, IfGood, PartsStand, Says, says_all}
 use Rattle.dm_kept.proofs.Entered.{entered_is}
 use Rattle.dm_kept.specs.Kept.{Kept, Sits, StaysKept}
-use Rattle.dm_kept.specs.Recovery.{Found, Through}
+use Rattle.dm_kept.specs.Recovery.{Through}
 use Rattle.dm_kept.specs.Room.{MayFollow}
 use Rattle.dm_kept.specs.Spelled.{AllEntries, bodies_of}
 use Rattle.dm_kept.proofs.Frame.{names_stay}
@@ -35,9 +35,8 @@ use Rattle.dm_kept.proofs.Listings.{follows_of, limit_applied}
 use Rattle.dm_kept.proofs.Resting as resting
 use Rattle.dm_store.specs.declared.life.Life.{Life}
 use Rattle.dm_store.specs.Keeps.{Allows, Founded, Goes, HoldsOf, IsDesk, Keeps, RecordGoes, RestsBy, SoFar, StandBehind, added}
-use Rattle.dm_store.specs.Lives.{AreAfter, AreBounded, AreLives, covers_of, is_plain, lives_after}
+use Rattle.dm_store.specs.Lives.{AreAfter, AreBounded, AreLives, covers_of, lives_after}
 use Rattle.dm_store.specs.View.{View, spelled}
-use Rattle.dm_store.proofs.Lives.{bounded_after}
 
 -- of a disk that isn't good it doesn't matter what is said
 rests_by_any : (broken : Bool) (says other : Says) (history failed : History) (gate : ℕ) (covers : Covers) (disk : DiskState) → RestsBy broken false says history failed gate covers disk → RestsBy broken false other history failed gate covers disk
@@ -161,20 +160,23 @@ founded_next {D = D} {O = O} tells clock says old new entry recorded is list ent
           (goes told false (before ++ old.list) held (owes_nothing (says old.origin) clock old entry)).holds);
     }
 
+pub positive : {limits : Limits} → IsLimits limits → 0 < limits.checkpoint + limits.piece
+positive {limits = limits} are = let few = are.checkpoint in let least = are.piece in omega (arith, few, least)
+
 module _ {D O : Type 0} (tells : Type 0) (clock : D → Clock) (says : O → Says) (old new : View D O) (entry : Entry) (is : IsDesk tells clock old) (limits : new.limits ≡ old.limits) (goes : RecordGoes tells clock says old new entry) where
   bound_same : (lives : List Life) → AreBounded (old.limits.checkpoint + old.limits.piece) lives → AreBounded (new.limits.checkpoint + new.limits.piece) lives
   bound_same lives = subst (λ (l : Limits). AreBounded (l.checkpoint + l.piece) lives) (sym limits)
 
   -- the desk behind an entry that was recorded
-  pub recorded_desk : IsEntry entry → IsTrue (is_plain entry) → Takes entry old.items new.items → AreAfter entry old.items old.lives → new.lives ≡ lives_after entry (applied entry old.items) old.lives → new.list ≡ old.list ++ entry ∷ [] → new.failed ≡ []
+  pub recorded_desk : IsEntry entry → AreBounded (old.limits.checkpoint + old.limits.piece) (lives_after entry (applied entry old.items) old.lives) → Takes entry old.items new.items → AreAfter entry old.items old.lives → new.lives ≡ lives_after entry (applied entry old.items) old.lives → new.list ≡ old.list ++ entry ∷ [] → new.failed ≡ []
       → IsDesk tells clock new
-  recorded_desk entry_is plain takes after lives list failed = record {
+  recorded_desk entry_is bounded takes after lives list failed = record {
     limits_are = subst IsLimits (sym limits) is.limits_are;
     limit = ap (λ (v : Listing). v.limit) takes.value ∙ limit_applied entry old.items ∙ is.limit ∙ sym (ap (λ (l : Limits). l.items) limits);
     founded = founded_next tells clock says old new entry (entry ∷ []) is.founded list (λ h all. entries_push h entry all entry_is) (λ h is_of. keeps_step h entry old.items new.items is_of takes) goes;
     failed = λ unbroken. failed;
     lives = λ unbroken. subst (λ (v : Listing). AreLives v.items new.lives) (sym takes.value) (subst (AreLives (applied entry old.items).items) (sym lives) after);
-    bounded = bound_same new.lives (subst (AreBounded (old.limits.checkpoint + old.limits.piece)) (sym lives) (bounded_after entry (applied entry old.items) (old.limits.checkpoint + old.limits.piece) old.lives plain is.bounded));
+    bounded = bound_same new.lives (subst (AreBounded (old.limits.checkpoint + old.limits.piece)) (sym lives) bounded);
   }
 
   -- and behind one that failed
@@ -197,30 +199,63 @@ near_one gate list longer failed entry body far far' tried is near short =
     let long : length body ≡ length (spelling_of entry) = ap length is in
     near (omega (arith, short, size, long))
 
--- Two calls, of which the first left no failed entry.
-pub keeps_then : {D O : Type 0} (tells : Type 0) (clock : D → Clock) (says : O → Says) (old mid new : View D O) → Keeps tells clock says old mid → mid.origin ≡ old.origin → mid.failed ≡ []
-    → Keeps tells clock says mid new → Keeps tells clock says old new
-keeps_then {D = D} {O = O} tells clock says old mid new one origin failed two told good before holds =
+-- Two calls from one history, of which the first left no failed entry.
+pub goes_then : {D O : Type 0} (good : Bool) (said : Says) (clock : D → Clock) (old mid new : View D O) (before : History) → Goes good said clock old mid before (added old mid) → mid.failed ≡ []
+    → Goes good said clock mid new (before ++ added old mid) (added mid new) → Goes good said clock old new before (added old new)
+goes_then {D = D} {O = O} good said clock old mid new before went failed goes =
     let first : History = added old mid in
     let second : History = added mid new in
-    let went : Goes good (says old.origin) clock old mid before first = one told good before holds in
-    let held : HoldsOf good (says mid.origin) clock mid (before ++ first) = subst (λ (o : O). HoldsOf good (says o) clock mid (before ++ first)) (sym origin) went.holds in
-    let goes : Goes good (says old.origin) clock mid new (before ++ first) second = subst (λ (o : O). Goes good (says o) clock mid new (before ++ first) second) origin (two told good (before ++ first) held) in
     let longer : new.list ≡ old.list ++ (first ++ second) = goes.longer ∙ ap (λ (h : History). h ++ second) went.longer ∙ append_assoc old.list first second in
     let both_is : added old new ≡ first ++ second = ap (λ (h : History). drop (length old.list) h) longer ∙ drop-append_seam old.list (first ++ second) in
-    subst (λ (h : History). Goes good (says old.origin) clock old new before h) (sym both_is) (record {
+    subst (λ (h : History). Goes good said clock old new before h) (sym both_is) (record {
       longer = longer;
-      moments = joined (clock old.disk) (clock mid.disk) (clock new.disk) (Kept good (says old.origin) (Through before ((first ++ second) ++ new.failed)))
-          (weaker (clock old.disk) (clock mid.disk) (Kept good (says old.origin) (Through before (first ++ mid.failed))) (Kept good (says old.origin) (Through before ((first ++ second) ++ new.failed)))
-          (λ disk. resting.kept_weaker good (says old.origin) (Through before (first ++ mid.failed)) (Through before ((first ++ second) ++ new.failed)) disk
+      moments = joined (clock old.disk) (clock mid.disk) (clock new.disk) (Kept good said (Through before ((first ++ second) ++ new.failed)))
+          (weaker (clock old.disk) (clock mid.disk) (Kept good said (Through before (first ++ mid.failed))) (Kept good said (Through before ((first ++ second) ++ new.failed)))
+          (λ disk. resting.kept_weaker good said (Through before (first ++ mid.failed)) (Through before ((first ++ second) ++ new.failed)) disk
           (λ found is. subst (λ (h : History). Through before h found) (sym (append_assoc first second new.failed))
           (resting.through_front before first (second ++ new.failed) found
           (subst (λ (h : History). Through before h found) (ap (λ (h : History). first ++ h) failed ∙ append-nil first) is)))) went.moments)
-          (weaker (clock mid.disk) (clock new.disk) (Kept good (says old.origin) (Through (before ++ first) (second ++ new.failed))) (Kept good (says old.origin) (Through before ((first ++ second) ++ new.failed)))
-          (λ disk. resting.kept_weaker good (says old.origin) (Through (before ++ first) (second ++ new.failed)) (Through before ((first ++ second) ++ new.failed)) disk
+          (weaker (clock mid.disk) (clock new.disk) (Kept good said (Through (before ++ first) (second ++ new.failed))) (Kept good said (Through before ((first ++ second) ++ new.failed)))
+          (λ disk. resting.kept_weaker good said (Through (before ++ first) (second ++ new.failed)) (Through before ((first ++ second) ++ new.failed)) disk
           (λ found is. subst (λ (h : History). Through before h found) (sym (append_assoc first second new.failed)) (resting.through_back before first (second ++ new.failed) found is))) goes.moments);
-      holds = subst (HoldsOf good (says old.origin) clock new) (append_assoc before first second) goes.holds;
+      holds = subst (HoldsOf good said clock new) (append_assoc before first second) goes.holds;
     })
+
+-- So two calls compose.
+pub keeps_then : {D O : Type 0} (tells : Type 0) (clock : D → Clock) (says : O → Says) (old mid new : View D O) → Keeps tells clock says old mid → mid.origin ≡ old.origin → mid.failed ≡ []
+    → Keeps tells clock says mid new → Keeps tells clock says old new
+keeps_then {D = D} {O = O} tells clock says old mid new one origin failed two told good before holds =
+    let went : Goes good (says old.origin) clock old mid before (added old mid) = one told good before holds in
+    let held : HoldsOf good (says mid.origin) clock mid (before ++ added old mid) = subst (λ (o : O). HoldsOf good (says o) clock mid (before ++ added old mid)) (sym origin) went.holds in
+    goes_then good (says old.origin) clock old mid new before went failed
+    (subst (λ (o : O). Goes good (says o) clock mid new (before ++ added old mid) (added mid new)) origin (two told good (before ++ added old mid) held))
+
+-- A step on the files of a desk, of which it is known what it leaves of each history that the desk holds.
+module _ {D O : Type 0} (tells : Type 0) (clock : D → Clock) (says : O → Says) (old new : View D O) (list : new.list ≡ old.list) (failed : new.failed ≡ [])
+    (goes : tells → (good : Bool) (said : Says) (before : History) → HoldsOf good said clock old before → Throughout (clock old.disk) (clock new.disk) (Kept good said (Through before [])) × HoldsOf good said clock new before) where
+  pub step_keeps : Keeps tells clock says old new
+  step_keeps told good before holds =
+      let both = goes told good (says old.origin) before holds in
+      subst (λ (h : History). Goes good (says old.origin) clock old new before h) (sym (ap (λ (h : History). drop (length old.list) h) list ∙ drop-length old.list)) (record {
+        longer = list ∙ sym (append-nil old.list);
+        moments = subst (λ (h : History). Throughout (clock old.disk) (clock new.disk) (Kept good (says old.origin) (Through before h))) (sym failed) both.0;
+        holds = subst (HoldsOf good (says old.origin) clock new) (sym (append-nil before)) both.1;
+      })
+
+  pub step_desk : IsDesk tells clock old → new.items ≡ old.items → new.lives ≡ old.lives → new.limits ≡ old.limits → (new.broken ≡ false → AreLives new.items.items new.lives) → IsDesk tells clock new
+  step_desk is items lives limits are = record {
+    limits_are = subst IsLimits (sym limits) is.limits_are;
+    limit = ap (λ (v : Listing). v.limit) items ∙ is.limit ∙ sym (ap (λ (l : Limits). l.items) limits);
+    founded = record {
+      before = is.founded.before;
+      entries = subst (λ (h : History). AllEntries (is.founded.before ++ h)) (sym list) is.founded.entries;
+      items = subst (λ (h : History). IsOf (is.founded.before ++ h) new.items) (sym list) (subst (IsOf (is.founded.before ++ old.list)) (sym items) is.founded.items);
+      holds = λ told. subst (λ (h : History). HoldsOf false says_all clock new (is.founded.before ++ h)) (sym list) (goes told false says_all (is.founded.before ++ old.list) (is.founded.holds told)).1;
+    };
+    failed = λ unbroken. failed;
+    lives = are;
+    bounded = subst (λ (l : Limits). AreBounded (l.checkpoint + l.piece) new.lives) (sym limits) (subst (AreBounded (old.limits.checkpoint + old.limits.piece)) (sym lives) is.bounded);
+  }
 
 -- A step on the files alone, at whatever state of the journal.
 

@@ -1,4 +1,11 @@
+pub mod Found
 pub mod Lives
 pub mod Keeping
 pub mod Breaking
 pub mod Passing
+pub mod Published
+pub mod Saved
+pub mod Added
+pub mod Begun
+pub mod Idle
+pub mod Composing

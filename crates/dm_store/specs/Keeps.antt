@@ -1,5 +1,5 @@
 -- What every desk keeps, and the one clause of all its calls.
-use Rattle.std.specs.Prelude.{◌≡◌, ◌+◌, ◌^◌, ◌≤◌, ℕ, Bool, true, false, List, [], ◌∷◌, ◌++◌, length, drop}
+use Rattle.std.specs.Prelude.{◌≡◌, ◌+◌, ◌^◌, ◌≤◌, ℕ, Bool, true, false, [], ◌++◌, length, drop}
 use Rattle.dm_types.specs.Limits.{IsLimits}
 use Rattle.dm_types.specs.declared.entry.Entry.{Entry}
 use Rattle.dm_disk_model.specs.Disk.{DiskState, History as Clock, now}

@@ -1,7 +1,13 @@
+pub mod Adding
 pub mod Becomes
+pub mod Idle
 pub mod Keeps
 pub mod Lives
 pub mod Origin
 pub mod Passes
+pub mod Publishing
+pub mod Readied
+pub mod Saving
 pub mod Store
+pub mod Unrecorded
 pub mod View

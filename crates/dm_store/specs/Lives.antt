@@ -45,14 +45,19 @@ covers_of lives id = option_map (λ life. life.cover) (life_in id lives)
 abbrev pub begun_life : Item → Life
 begun_life item = record { id = item.id; part = part_place item.id.0 item.epoch.0; cover = item.slices; unsaved = 0; round = 0; plan = [] }
 
-abbrev pub with_begun : Option Item → List Life → List Life
-with_begun None lives = lives
-with_begun (Some item) lives = lives ++ begun_life item ∷ []
+-- the lives with one more, where there is one
+abbrev pub with_life : Option Life → List Life → List Life
+with_life None lives = lives
+with_life (Some life) lives = lives ++ life ∷ []
+
+-- the life of which all that is live was saved
+abbrev pub saved_life : Life → Life
+saved_life life = record life { unsaved = 0 }
 
 -- What an entry makes of the lives, where the list is this one behind it: an attempt begins, what is live was saved, or an attempt ends.
 abbrev pub lives_after : Entry → Listing → List Life → List Life
-lives_after (entries.Began id attempt by at) items lives = with_begun (item_in id.0 items.items) lives
-lives_after (entries.Progress id slices) items lives = changed_life id.0 (λ life. record life { unsaved = 0 }) lives
+lives_after (entries.Began id attempt by at) items lives = with_life (option_map begun_life (item_in id.0 items.items)) lives
+lives_after (entries.Progress id slices) items lives = changed_life id.0 saved_life lives
 lives_after (entries.Broke id reason) items lives = without_life id.0 lives
 lives_after (entries.Paused id) items lives = without_life id.0 lives
 lives_after (entries.Cancelled id) items lives = without_life id.0 lives
@@ -80,6 +85,11 @@ abbrev pub ArePlaced : ℕ → List Slice → List Part → Type 0
 ArePlaced index cover [] = Unit {0}
 ArePlaced index cover (part ∷ rest) = IsPlaced index cover part × ArePlaced (index + 1) cover rest
 
+-- where a total is known no part ends above it
+abbrev pub EndWithin : Option ℕ → List Part → Type 0
+EndWithin total [] = Unit {0}
+EndWithin total (part ∷ rest) = IfSome total (λ t. part.end ≤ t) × EndWithin total rest
+
 -- The life is that of the item's attempt.
 pub record IsLifeOf (item : Item) (life : Life) : Type 0 where
   pub runs : IsTrue (is_running item.phase)
@@ -93,8 +103,11 @@ pub record IsLifeOf (item : Item) (life : Life) : Type 0 where
   pub same : life.unsaved ≡ 0 → SamePlaces life.cover item.slices
   -- before the first reply was told nothing is live or planned, and before the first plan there are no parts
   pub untold : item.key ≡ None → (life.cover ≡ no_bytes) × (life.round ≡ 0)
+  -- of an unknown total there is one slice
+  pub one : item.total ≡ None → length life.cover ≡ 1
   pub fresh : life.round ≡ 0 → life.plan ≡ []
   pub plan : ArePlaced 0 life.cover life.plan
+  pub ends : EndWithin item.total life.plan
 
 -- a running item has a life, and no other has any
 abbrev pub LifeOf : Option Item → Option Life → Type 0
@@ -110,7 +123,7 @@ AreLives items lives = (id : ℕ) → LifeOf (item_in id items) (life_in id live
 abbrev pub AreAfter : Entry → Listing → List Life → Type 0
 AreAfter entry items lives = AreLives (applied entry items).items (lives_after entry (applied entry items) lives)
 
--- the entry adds no item, begins no attempt, saves no bytes and opens no list: it ends the attempt of its item, or leaves every one
+-- the entry adds no item and opens no list: it begins, saves or ends the attempt of its item, or leaves every one
 abbrev pub is_plain : Entry → Bool
 is_plain (entries.Broke id reason) = true
 is_plain (entries.Paused id) = true
@@ -123,10 +136,15 @@ is_plain (entries.Restarted id epoch because) = true
 is_plain (entries.Done id digest at) = true
 is_plain (entries.Asked id) = true
 is_plain (entries.Added id word address wish digest at) = false
-is_plain (entries.Began id attempt by at) = false
-is_plain (entries.Progress id slices) = false
+is_plain (entries.Began id attempt by at) = true
+is_plain (entries.Progress id slices) = true
 is_plain (entries.Reopened next at) = false
 is_plain (entries.Restored item) = false
+
+-- The life that the entry begins, where the list is this one behind it: other entries begin none.
+abbrev pub IsLifeFor : Entry → Listing → Option Life → Type 0
+IsLifeFor (entries.Began id attempt by at) items life = life ≡ option_map begun_life (item_in id.0 items.items)
+IsLifeFor _ items life = Unit {0}
 
 -- no attempt has as many unsaved bytes as this
 abbrev pub AreBounded : ℕ → List Life → Type 0

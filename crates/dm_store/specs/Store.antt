@@ -1,5 +1,5 @@
 -- The parts of a desk, as it is seen from outside, and the room that it keeps.
-use Rattle.std.specs.Prelude.{◌≡◌, ◌+◌, ◌*◌, ◌≤◌, ℕ, List, [], ◌∷◌, Option, Some, None, vec_capacity, length}
+use Rattle.std.specs.Prelude.{◌+◌, ◌*◌, ◌≤◌, ℕ, [], ◌∷◌, Option, Some, None, vec_capacity, length}
 use Rattle.dm_types.specs.declared.entry.Entry.{Entry}
 use Rattle.dm_disk_model.specs.Disk.{History as Clock}
 use Rattle.dm_item.specs.Lawful.{History}

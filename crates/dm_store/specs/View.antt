@@ -1,6 +1,5 @@
 -- A desk, seen from outside.
-use Rattle.std.specs.Prelude.{◌≡◌, ◌+◌, ℕ, Bool, false, List, [], ◌∷◌, ◌++◌, length}
-use Rattle.dm_types.specs.declared.entry.Entry.{Entry}
+use Rattle.std.specs.Prelude.{◌+◌, ℕ, Bool, List, [], ◌∷◌, length}
 use Rattle.dm_types.specs.declared.item.Limits.{Limits}
 use Rattle.dm_record.specs.Spelling.{spelling_of}
 use Rattle.dm_item.specs.Lawful.{History}

@@ -18,7 +18,7 @@ pub fn find_life(lives: &[Life], id: ItemId) -> Option<usize>
 }
 
 /// The life of an id.
-fn life_of(lives: &[Life], id: ItemId) -> Option<&Life>
+pub fn life_of(lives: &[Life], id: ItemId) -> Option<&Life>
     ensures { option_copied result ≡ life_in id.0 lives.now }
 {
     lives.iter().find(|life| life.id.0 == id.0)

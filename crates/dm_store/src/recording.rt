@@ -1,34 +1,35 @@
-ghost use Rattle.std.specs.Prelude.{◌≡◌, ◌≢◌, ◌+◌, ℕ, false, Some, IsSome, IsTrue, OnOk};
+ghost use Rattle.std.specs.Prelude.{◌≡◌, ◌≢◌, ◌+◌, ◌<◌, ℕ, false, Some, IsSome, IsTrue, OnOk, length, slice_index_or, slice_set, vec_capacity, vec_len};
 ghost use Rattle.dm_types.specs.Faults.{HasCause};
 ghost use Rattle.dm_types.specs.declared.entry.Entry.TheVariants as entries;
 ghost use Rattle.dm_types.specs.declared.reason.Reason.TheVariants as reasons;
 ghost use Rattle.dm_disk_model.specs.Moments.{KeepsFiles};
 ghost use Rattle.dm_record.specs.Limits.{IsEntry};
 ghost use Rattle.dm_record.specs.Spelling.{spelling_of};
-ghost use Rattle.dm_item.specs.Listing.{Admits, Listing};
+ghost use Rattle.dm_item.specs.Listing.{Admits, Listing, applied};
 ghost use Rattle.dm_item.specs.Ready.{IsReady};
 ghost use Rattle.dm_journal.specs.Text.{FitsCell};
 ghost use Rattle.dm_store.specs.Becomes.{RecordMakes, kind_is};
 ghost use Rattle.dm_store.specs.Keeps.{Keeps, RecordGoes, StandBehind, StaysNear};
-ghost use Rattle.dm_store.specs.Lives.{AreAfter, life_in, is_plain, lives_after, without_life};
+ghost use Rattle.dm_store.specs.Lives.{AreAfter, IsLifeFor, changed_life, is_plain, life_in, lives_after, saved_life, with_life, without_life};
 ghost use Rattle.dm_store.specs.Origin.{said_of};
 ghost use Rattle.dm_store.specs.Store.{HasRoomBehind, HasRoomOf, IsStore, KeepsRoom, view_of};
 
-use crate::{Life, Store};
+use crate::{Life, Store, find_life};
 use dm_disk_model::Disk;
 use dm_edge::Origin;
 use dm_item::Items;
 use dm_record::write_broke;
 use dm_types::{DiskKind, Entry, Item, ItemId, Reason};
 
-/// Records an entry that adds no item, begins no attempt and saves no bytes: first in the journal, and
-/// then in the list. It takes no memory, since what the list wants of it was made ready before. Where the
-/// journal fails the desk is broken, and keeps the entry apart.
+/// Records an entry that adds no item and opens no list: first in the journal, and then in the list and
+/// the lives. It takes no memory, since what the list wants of it was made ready before, and the life of
+/// an attempt that begins too. Where the journal fails the desk is broken, and keeps the entry apart.
 pub fn record<D: Disk, O: Origin>(
     store: &mut Store<D, O>,
     entry: Entry,
     body: &[u8],
     item: Option<Item>,
+    life: Option<Life>,
 ) -> Result<(), DiskKind>
     requires store { IsStore D.tells D.history store.old }
     requires whole { store.old.broken ≡ false }
@@ -38,6 +39,8 @@ pub fn record<D: Disk, O: Origin>(
     requires size { FitsCell body.now }
     requires taken { Admits store.old.items entry }
     requires ready { IsReady store.old.items entry item }
+    requires life { IsLifeFor entry (applied entry store.old.items) life }
+    requires place { IsSome life → length store.old.lives.items < vec_capacity store.old.lives }
     requires stand { D.tells → StandBehind D.history (view_of store.old) entry }
     requires lives { AreAfter entry store.old.items store.old.lives.items }
     requires room { HasRoomBehind 0 entry store.old }
@@ -52,7 +55,7 @@ pub fn record<D: Disk, O: Origin>(
     match store.journal.append(&mut store.disk, body) {
         Ok(()) => {
             store.items.put(&entry, item);
-            follow(&mut store.lives, &entry);
+            follow(&mut store.lives, &entry, life);
             store.list.push_reserved(entry);
             Ok(())
         }
@@ -65,18 +68,21 @@ pub fn record<D: Disk, O: Origin>(
 }
 
 /// Keeps the entry that failed.
-fn put_failed(failed: &mut Option<Entry>, entry: Entry)
+pub fn put_failed(failed: &mut Option<Entry>, entry: Entry)
     ensures { failed.new ≡ Some entry }
 {
     *failed = Some(entry);
 }
 
-/// Ends the attempt that an entry ends.
-fn follow(lives: &mut Vec<Life>, entry: &Entry)
-    requires { IsTrue (is_plain entry.now) }
-    ensures { (items : Listing) → lives.new.items ≡ lives_after entry.now items lives.old.items }
+/// Begins, saves or ends the attempt that an entry begins, saves or ends.
+fn follow(lives: &mut Vec<Life>, entry: &Entry, life: Option<Life>)
+    requires plain { IsTrue (is_plain entry.now) }
+    requires place { IsSome life → length lives.old.items < vec_capacity lives.old }
+    ensures { (items : Listing) → IsLifeFor entry.now items life → lives.new.items ≡ lives_after entry.now items lives.old.items }
 {
     match entry {
+        Entry::Began { .. } => add_life(lives, life),
+        Entry::Progress { id, .. } => save_life(lives, *id),
         Entry::Broke { id, .. } => drop_life(lives, *id),
         Entry::Paused { id } => drop_life(lives, *id),
         Entry::Cancelled { id } => drop_life(lives, *id),
@@ -88,14 +94,38 @@ fn follow(lives: &mut Vec<Life>, entry: &Entry)
         Entry::Done { .. } => {}
         Entry::Asked { .. } => {}
         Entry::Added { .. } => unreachable!(),
-        Entry::Began { .. } => unreachable!(),
-        Entry::Progress { .. } => unreachable!(),
         Entry::Reopened { .. } => unreachable!(),
         Entry::Restored { .. } => unreachable!(),
     }
 }
 
-fn drop_life(lives: &mut Vec<Life>, id: ItemId)
+pub fn add_life(lives: &mut Vec<Life>, life: Option<Life>)
+    requires { IsSome life → length lives.old.items < vec_capacity lives.old }
+    ensures { lives.new.items ≡ with_life life lives.old.items }
+{
+    match life {
+        Some(life) => lives.push_reserved(life),
+        None => {}
+    }
+}
+
+pub fn save_life(lives: &mut Vec<Life>, id: ItemId)
+    ensures { lives.new.items ≡ changed_life id.0 saved_life lives.old.items }
+{
+    match find_life(lives, id) {
+        Some(place) => save_at(lives, place),
+        None => {}
+    }
+}
+
+pub fn save_at(lives: &mut Vec<Life>, place: usize)
+    requires { place < vec_len lives.old }
+    ensures { (d : Life) → lives.new.items ≡ slice_set lives.old.items place (saved_life (slice_index_or lives.old.items place d)) }
+{
+    lives[place].unsaved = 0;
+}
+
+pub fn drop_life(lives: &mut Vec<Life>, id: ItemId)
     ensures { lives.new.items ≡ without_life id.0 lives.old.items }
 {
     lives.retain(|life| life.id.0 != id.0);
@@ -120,5 +150,5 @@ pub fn interrupt<D: Disk, O: Origin>(
     ensures far { StaysNear (D.far store.old.disk) (D.far store.new.disk) (view_of store.old) (view_of store.new) }
 {
     let body = write_broke(id, reason);
-    record(store, Entry::Broke { id, reason }, &body, None)
+    record(store, Entry::Broke { id, reason }, &body, None, None)
 }

@@ -69,10 +69,9 @@ returns-in-Ok-connect-clause-none g c tells =
 pub returns-in-Ok-connect-clause-content : goal.returns-in-Ok-connect-clause-content
 returns-in-Ok-connect-clause-content g c tells =
     let W = g.N.W.Wire in
-    let tells_wire = g.met.N.Net.wires_tell tells in
     subst (λ (w : Wanted). IfOk c.hear.result (λ answered. IsAnswered w (purpose_of c.args.id c.args.attempt c.args.aim.now.address) c.args.aim.now.request
     (W.purpose answered.wire) (W.told answered.wire) answered.reader answered.head)) (ap (λ (r : Reader). r.wanted) c.in-Ok.ensures)
-    (c.hear.ensures.content tells (c.in-Ok-connect.ensures.fresh tells_wire) (c.in-Ok-connect.ensures.purpose tells_wire))
+    (c.hear.ensures.content tells (c.in-Ok-connect.ensures.fresh tells) (c.in-Ok-connect.ensures.purpose tells))
 
 pub returns-in-Ok-connect-clause-heard : goal.returns-in-Ok-connect-clause-heard
 returns-in-Ok-connect-clause-heard g c =

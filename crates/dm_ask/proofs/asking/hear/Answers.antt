@@ -6,13 +6,11 @@ use Rattle.dm_ask.proofs.Talking.{none_shown}
 use Rattle.dm_ask.proofs.asking.hear.Goals as goal
 
 pub returns-in-Ok-clause-content : goal.returns-in-Ok-clause-content
-returns-in-Ok-clause-content g c tells fresh made =
-    let tells_wire = g.met.N.Net.wires_tell tells in
-    record {
-      purpose_is = c.converse.ensures.stays.0 ∙ made;
-      sent = c.in-Ok.ensures.sent tells_wire fresh ∙ c.bytes.ensures;
-      says = c.in-Ok.ensures.says tells_wire fresh;
-    }
+returns-in-Ok-clause-content g c tells fresh made = record {
+  purpose_is = c.converse.ensures.stays.0 ∙ made;
+  sent = c.in-Ok.ensures.sent tells fresh ∙ c.bytes.ensures;
+  says = c.in-Ok.ensures.says tells fresh;
+}
 
 pub returns-in-Err-clause-none : goal.returns-in-Err-clause-none
 returns-in-Err-clause-none g c tells fresh made =

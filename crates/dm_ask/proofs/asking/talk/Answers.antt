@@ -36,6 +36,7 @@ returns-in-Ok-head-clause-says g c tells fresh = c.in-Ok-head.ensures.says tells
 
 pub returns-in-Ok-head-clause-heard : goal.returns-in-Ok-head-clause-heard
 returns-in-Ok-head-clause-heard g c = record {
+  wanted_is = c.head.ensures.wanted;
   plain = c.in-Ok-head.ensures.plain;
   framed = c.in-Ok-head.ensures.framed;
   unread = c.in-Ok-head.ensures.fresh.0;

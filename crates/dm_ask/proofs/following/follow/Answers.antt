@@ -1,6 +1,9 @@
-use Rattle.std.proofs.Common.{◌≡◌, arith, inl, refl, ◌∙◌}
+use Rattle.std.proofs.Common.{◌≡◌, ℕ, List, arith, inl, refl, subst, ◌∙◌}
 use Rattle.dm_edge.specs.declared.wanted.Wanted.TheVariants.{Whole}
+use Rattle.dm_edge.specs.Fair.{ask_of}
+use Rattle.dm_request.specs.Request.{request_of}
 use Rattle.dm_ask.specs.Asked.{IsReady, IsReached}
+use Rattle.dm_ask.specs.Following.{IsAnswered}
 use Rattle.dm_ask.specs.Redirects.{purpose_of}
 use Rattle.dm_ask.proofs.Answering.{is_ready, is_reached, of_reached}
 use Rattle.dm_ask.proofs.Redirecting.{led_none, led_more, none_since, stop_at, stop_shown}
@@ -42,6 +45,16 @@ returns-in-Ok-clause-ready g c =
     (λ wire reader head address key. IsReady Whole made_for c.args.first.address reader head address key) c.reached_at.ensures
     (is_ready Whole made_for c.args.first.address c.loop-answered.aim.address found.reader found.head found.key c.in-Ok.ensures.heard c.loop-answered.invariant.reads)
 
+pub returns-in-Ok-clause-heard : goal.returns-in-Ok-clause-heard
+returns-in-Ok-clause-heard g c tells =
+    let W = g.N.W.Wire in
+    let made_for = purpose_of c.args.id c.args.attempt in
+    let found = c.in-Ok.answered in
+    of_reached c.reached_at.result found.wire found.reader found.head c.loop-answered.aim.address found.key
+    (λ wire reader head address key. IsAnswered Whole (made_for address) (request_of address (ask_of Whole)) (W.purpose wire) (W.told wire) reader head) c.reached_at.ensures
+    (subst (λ (request : List ℕ). IsAnswered Whole (made_for c.loop-answered.aim.address) request (W.purpose found.wire) (W.told found.wire) found.reader found.head)
+    c.loop-answered.invariant.request (c.in-Ok.ensures.content tells))
+
 pub returns-in-Ok-clause-reached : goal.returns-in-Ok-clause-reached
 returns-in-Ok-clause-reached g c tells =
     let N = g.N.Net in
@@ -54,7 +67,7 @@ returns-in-Ok-clause-reached g c tells =
     (record { purpose = W.purpose wire; told = W.told wire; counts = W.faults wire }) reader head address) c.reached_at.ensures
     (is_reached Whole made_for c.args.first.address c.loop-answered.aim.address c.loop-answered.aim.request (N.closed c.args.net.now) (N.closed c.loop-answered.net)
     (N.closed c.ask_once.new.net) c.loop-answered.followed (record { purpose = W.purpose found.wire; told = W.told found.wire; counts = W.faults found.wire }) found.reader found.head
-    (was.led tells) was.within (inl refl) was.request c.in-Ok.ensures.closed (c.in-Ok.ensures.content tells))
+    (was.led tells) was.within (inl refl) was.request c.in-Ok.ensures.closed (c.in-Ok.ensures.content (g.met.N.Net.wires_tell tells)))
 
 pub returns-in-Ok-clause-origin : goal.returns-in-Ok-clause-origin
 returns-in-Ok-clause-origin g c =

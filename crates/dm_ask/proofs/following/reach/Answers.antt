@@ -1,9 +1,11 @@
 use Rattle.std.specs.Prelude.{IfOk, IfErr}
 use Rattle.std.proofs.Common.{sym, subst}
+use Rattle.dm_edge.specs.Fair.{ask_of}
 use Rattle.dm_edge.specs.declared.wanted.Wanted.{Wanted}
+use Rattle.dm_request.specs.Request.{request_of}
 use Rattle.dm_ask.specs.declared.following.Reached.{Reached}
 use Rattle.dm_ask.specs.Asked.{IsAim, IsReady, IsReached}
-use Rattle.dm_ask.specs.Following.{IsStopped}
+use Rattle.dm_ask.specs.Following.{IsAnswered, IsPart, IsStopped}
 use Rattle.dm_ask.specs.Redirects.{purpose_of}
 use Rattle.dm_ask.proofs.following.reach.Goals as goal
 
@@ -13,6 +15,12 @@ follow-requires g c = record { request = subst (λ (w : Wanted). IsAim w c.args.
 pub returns-in-Whole-clause-ready : goal.returns-in-Whole-clause-ready
 returns-in-Whole-clause-ready g c =
     subst (λ (w : Wanted). IfOk c.follow.result (λ f. IsReady w (purpose_of c.args.id c.args.attempt) c.args.aim.address f.reader f.head f.address f.key)) (sym c.in-Whole.is) c.follow.ensures.ready
+
+pub returns-in-Whole-clause-heard : goal.returns-in-Whole-clause-heard
+returns-in-Whole-clause-heard g c tells =
+    let W = g.N.W.Wire in
+    subst (λ (w : Wanted). IfOk c.follow.result (λ f. IsAnswered w (purpose_of c.args.id c.args.attempt f.address) (request_of f.address (ask_of w)) (W.purpose f.wire) (W.told f.wire) f.reader f.head))
+    (sym c.in-Whole.is) (c.follow.ensures.heard tells)
 
 pub returns-in-Whole-clause-reached : goal.returns-in-Whole-clause-reached
 returns-in-Whole-clause-reached g c tells =
@@ -34,6 +42,12 @@ pub returns-in-Part-clause-ready : goal.returns-in-Part-clause-ready
 returns-in-Part-clause-ready g c =
     subst (λ (w : Wanted). IfOk c.ask_part.result (λ f. IsReady w (purpose_of c.args.id c.args.attempt) c.args.aim.address f.reader f.head f.address f.key)) (sym c.in-Part.is) c.ask_part.ensures.ready
 
+pub returns-in-Part-clause-heard : goal.returns-in-Part-clause-heard
+returns-in-Part-clause-heard g c tells =
+    let W = g.N.W.Wire in
+    subst (λ (w : Wanted). IfOk c.ask_part.result (λ f. IsAnswered w (purpose_of c.args.id c.args.attempt f.address) (request_of f.address (ask_of w)) (W.purpose f.wire) (W.told f.wire) f.reader f.head))
+    (sym c.in-Part.is) (c.ask_part.ensures.heard tells)
+
 pub returns-in-Part-clause-reached : goal.returns-in-Part-clause-reached
 returns-in-Part-clause-reached g c tells =
     let N = g.N.Net in
@@ -46,3 +60,9 @@ returns-in-Part-clause-stopped g c tells =
     let N = g.N.Net in
     subst (λ (w : Wanted). IfErr c.ask_part.result (IsStopped w (purpose_of c.args.id c.args.attempt) c.args.aim.address (N.faults c.args.net.now) (N.faults c.ask_part.new.net)
     (N.closed c.args.net.now) (N.closed c.ask_part.new.net))) (sym c.in-Part.is) (c.ask_part.ensures.stopped tells)
+
+pub returns-in-Whole-clause-direct : goal.returns-in-Whole-clause-direct
+returns-in-Whole-clause-direct g c part = absurd (subst IsPart c.in-Whole.is part)
+
+pub returns-in-Part-clause-direct : goal.returns-in-Part-clause-direct
+returns-in-Part-clause-direct g c part = c.ask_part.ensures.direct

@@ -3,7 +3,7 @@ use Rattle.dm_store.specs.declared.life.Life.{Life}
 use Rattle.dm_store.specs.Lives.{life_in, place_of}
 use Rattle.dm_store.specs.Passes.{round_of}
 use Rattle.dm_store.specs.Store.{view_of}
-use Rattle.dm_store.proofs.Passing.{declines_none, declines_stale, live_found, live_there}
+use Rattle.dm_store.proofs.Passing.{declines_stale, live_found, live_there}
 use Rattle.dm_store.proofs.finding.live_at.Goals as goal
 
 pub unreachable-requires : goal.unreachable-requires

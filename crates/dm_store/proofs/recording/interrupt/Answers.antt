@@ -1,4 +1,4 @@
-use Rattle.std.proofs.Common.{ℕ, ◌+◌, length, vec_capacity, refl, arith}
+use Rattle.std.proofs.Common.{ℕ, ◌+◌, length, vec_capacity, arith}
 use Rattle.dm_types.specs.declared.entry.Entry.TheVariants as entries
 use Rattle.dm_store.specs.Origin.{said_of}
 use Rattle.dm_store.specs.Store.{HasRoomOf, KeepsRoom, view_of}

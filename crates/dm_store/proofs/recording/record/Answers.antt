@@ -1,4 +1,4 @@
-use Rattle.std.proofs.Common.{◌≡◌, List, [], ◌∷◌, ◌++◌, ℕ, length, drop, refl, sym, ap, subst, ◌∙◌, arith, length-append}
+use Rattle.std.proofs.Common.{List, [], ◌∷◌, ◌++◌, ℕ, ◌+◌, length, drop, refl, sym, ap, subst, ◌∙◌, arith, length-append}
 use Rattle.std.proofs.lemmas.List.{append-nil}
 use Rattle.std.proofs.Math.Seq.{drop-append_seam, drop-length}
 use Rattle.dm_types.specs.declared.entry.Entry.{Entry}
@@ -9,8 +9,9 @@ use Rattle.dm_item.specs.Listing.{applied}
 use Rattle.dm_store.specs.declared.life.Life.{Life}
 use Rattle.dm_store.specs.Origin.{said_of}
 use Rattle.dm_store.specs.Store.{list_of, view_of}
-use Rattle.dm_store.proofs.Keeping.{desk_stands, fallen_desk, few_items, near_one, record_fell, record_goes, recorded_desk}
-use Rattle.dm_store.proofs.Lives.{plain_stays}
+use Rattle.dm_store.proofs.Composing.{lawful_none, lawful_one}
+use Rattle.dm_store.proofs.Keeping.{desk_stands, fallen_desk, few_items, near_one, positive, record_fell, record_goes, recorded_desk}
+use Rattle.dm_store.proofs.Lives.{bounded_after, plain_stays}
 use Rattle.dm_store.proofs.recording.record.Goals as goal
 
 pub append-requires-clause-stands : goal.append-requires-clause-stands
@@ -26,20 +27,22 @@ returns-in-Ok-clause-goes g c =
     record_goes g.D.Disk.tells g.D.Disk.history (λ o. said_of (g.O.Origin.says o)) (view_of c.args.store.now) _ c.args.entry c.requires.is c.requires.taken
     (few_items g.D.Disk.tells g.D.Disk.history (view_of c.args.store.now) c.requires.store.desk) c.requires.whole c.append.ensures.beside
     (λ told bodies rest. subst (λ (body : List ℕ). LeavesOnly start end (WithOrWithout bodies body)) c.requires.body (c.append.ensures.any_moment told bodies rest))
-    c.requires.stand (c.follow.ensures _) c.requires.whole c.put.ensures c.push_reserved.ensures.items (c.requires.store.desk.failed c.requires.whole)
+    c.requires.stand (c.follow.ensures _ c.requires.life) c.requires.whole c.put.ensures c.push_reserved.ensures.items (c.requires.store.desk.failed c.requires.whole)
     (λ told bodies rest. subst (λ (body : List ℕ). AtRest (now end) c.append.new.self (bodies ++ body ∷ [])) c.requires.body (c.in-Ok.ensures.acknowledged told bodies rest))
 
 pub returns-in-Ok-clause-room : goal.returns-in-Ok-clause-room
 returns-in-Ok-clause-room g c count room =
     let capacity = c.push_reserved.ensures.capacity in
     let entries = ap (length {A = Entry}) c.push_reserved.ensures.items ∙ length-append c.args.store.now.list.items (c.args.entry ∷ []) in
-    let lives = ap (length {A = Life}) (c.follow.ensures (applied c.args.entry c.args.store.now.items)) in
+    let lives = ap (length {A = Life}) (c.follow.ensures (applied c.args.entry c.args.store.now.items) c.requires.life) in
     omega (arith, capacity, entries, lives, room)
 
 pub returns-in-Ok-clause-store : goal.returns-in-Ok-clause-store
 returns-in-Ok-clause-store g c = record {
   desk = recorded_desk g.D.Disk.tells g.D.Disk.history (λ o. said_of (g.O.Origin.says o)) (view_of c.args.store.now) _ c.args.entry c.requires.store.desk refl (returns-in-Ok-clause-goes g c)
-      c.requires.is c.requires.plain c.put.ensures c.requires.lives (c.follow.ensures _) c.push_reserved.ensures.items (c.requires.store.desk.failed c.requires.whole);
+      c.requires.is
+      (bounded_after c.args.entry (applied c.args.entry c.args.store.now.items) (c.args.store.now.limits.checkpoint + c.args.store.now.limits.piece) c.args.store.now.lives.items (positive c.requires.store.desk.limits_are) c.requires.plain c.requires.store.desk.bounded)
+      c.put.ensures c.requires.lives (c.follow.ensures _ c.requires.life) c.push_reserved.ensures.items (c.requires.store.desk.failed c.requires.whole);
   room = returns-in-Ok-clause-room g c 0 c.requires.room;
 }
 
@@ -47,10 +50,12 @@ pub returns-in-Ok-clause-makes : goal.returns-in-Ok-clause-makes
 returns-in-Ok-clause-makes g c = record {
   whole = c.requires.whole;
   items_are = c.put.ensures.value;
-  lives_are = c.follow.ensures _;
+  lives_are = c.follow.ensures _ c.requires.life;
   list_is = c.push_reserved.ensures.items;
+  lawful = lawful_one c.args.entry c.args.store.now.items c.put.new.self c.put.ensures;
   gate_is = let size = ap (length {A = ℕ}) c.requires.body in let gate = c.in-Ok.ensures.ok in omega (arith, size, gate);
   failed_is = c.requires.store.desk.failed c.requires.whole;
+  may = tt;
   broken_is = c.requires.whole;
   origin = refl;
   limits = refl;
@@ -90,8 +95,10 @@ returns-in-Err-clause-makes g c = record {
   items_are = refl;
   lives_are = refl;
   list_is = sym (append-nil c.args.store.now.list.items);
+  lawful = lawful_none c.args.store.now.items;
   gate_is = let gate = c.in-Err.ensures.err in omega (arith, gate);
   failed_is = ap list_of c.put_failed.ensures;
+  may = (c.requires.taken, tt);
   broken_is = refl;
   origin = refl;
   limits = refl;

@@ -1,0 +1,150 @@
+-- How the driver ends an attempt.
+use Rattle.std.proofs.Common.{◌≡◌, ◌≢◌, ℕ, List, [], ◌∷◌, ◌++◌, Result, Ok, Err, refl, sym, ◌∙◌, ap, subst}
+use Rattle.std.specs.Prelude.{IfSome}
+use Rattle.std.proofs.lemmas.List.{append-nil}
+use Rattle.dm_types.specs.Faults.{Rose}
+use Rattle.dm_types.specs.Name.{IsPart}
+use Rattle.dm_types.specs.declared.entry.Entry.TheVariants as entries
+use Rattle.dm_types.specs.declared.item.Item.{Item}
+use Rattle.dm_types.specs.declared.item.ItemId.{ItemId}
+use Rattle.dm_types.specs.declared.kinds.DiskKind.{DiskKind}
+use Rattle.dm_types.specs.declared.reason.Reason.{Reason}
+use Rattle.dm_types.specs.declared.slices.Slice.{Slice}
+use Rattle.dm_disk_model.specs.Disk.{History as Clock}
+use Rattle.dm_policy.specs.Cause.{reason_of_cause}
+use Rattle.dm_policy.specs.declared.cause.Cause.{Cause}
+use Rattle.dm_policy.specs.declared.cause.Cause.TheVariants as causes
+use Rattle.dm_slice.specs.Cover.{SamePlaces}
+use Rattle.dm_kept.specs.Files.{Says}
+use Rattle.dm_store.specs.Becomes.{Fell}
+use Rattle.dm_store.specs.Keeps.{IsDesk}
+use Rattle.dm_store.specs.View.{View}
+use Rattle.dm_store.specs.declared.life.Life.{Life}
+use Rattle.dm_store.specs.declared.pass.Pass.{Pass}
+use Rattle.dm_answers.proofs.Hard.{hard_broke}
+use Rattle.dm_answers.proofs.Live.{one_life, weaker}
+use Rattle.dm_answers.specs.Broke.{BrokeAnswers, IsUnderWay, broke_by}
+use Rattle.dm_answers.specs.Faults.{IsOfJournal, desk_kind}
+use Rattle.dm_answers.specs.Running.{RunsWith}
+use Rattle.dm_answers.specs.declared.fault.DeskFault.{DeskFault}
+use Rattle.dm_answers.specs.declared.fault.DeskFault.TheVariants as faults
+use Rattle.dm_attempt.specs.declared.ended.Ended.{Ended}
+use Rattle.dm_attempt.specs.declared.ended.Ended.TheVariants as ended
+use Rattle.dm_attempt.specs.declared.stop.Stop.{Stop}
+use Rattle.dm_attempt.specs.declared.stop.Stop.TheVariants as stops
+use Rattle.dm_attempt.specs.Ending.{EndsBy, FaultEnds, RecordedBy}
+use Rattle.dm_attempt.specs.Goes.{CallGoes}
+use Rattle.dm_attempt.specs.Live.{DeskFell, DeskOver, IsTraced, LiveDesk, NothingUnsaved}
+use Rattle.dm_attempt.specs.Scene.{Scene, cover_by, item_by}
+use Rattle.dm_attempt.specs.Stops.{FaultLeaves, Refused}
+use Rattle.dm_attempt.specs.Trace.{Broken, Trace, so_far, with_saves}
+use Rattle.dm_attempt.proofs.Rounds.{life_is}
+use Rattle.dm_attempt.proofs.Steps.{fell_at, journal_leaves, over_by, own_id, so_closed}
+
+by_journal : (P : DeskFault → Type 0) → ((kind : DiskKind) → P (faults.Journal kind)) → (fault : DeskFault) → IsOfJournal fault → P fault
+by_journal P journal (faults.Journal kind) is = journal kind
+by_journal P journal faults.Broken is = absurd is
+by_journal P journal (faults.NoItem id) is = absurd is
+by_journal P journal (faults.Stale attempt round) is = absurd is
+by_journal P journal (faults.WrongState phase) is = absurd is
+by_journal P journal (faults.NotNext place) is = absurd is
+by_journal P journal (faults.PastEnd end) is = absurd is
+by_journal P journal (faults.CheckpointDue bytes) is = absurd is
+by_journal P journal (faults.ItemsFull count) is = absurd is
+by_journal P journal (faults.WordTaken id) is = absurd is
+by_journal P journal (faults.File kind) is = absurd is
+by_journal P journal faults.NoMemory is = absurd is
+by_journal P journal (faults.Damaged place) is = absurd is
+
+module _ {D O : Type 0} (tells : Type 0) (clock : D → Clock) (says : O → Says) (far : D → ℕ) (counts : D → DiskKind → ℕ) (scene : Scene D O) (pass : Pass) where
+  pub fault_ends : (present : View D O) (trace : Trace) (fault : DeskFault) → FaultLeaves tells clock says far counts scene present trace fault → FaultEnds tells clock says far counts scene present trace fault
+  fault_ends present trace faults.Broken leaves = leaves
+  fault_ends present trace (faults.NoItem id) leaves = leaves
+  fault_ends present trace (faults.Stale attempt round) leaves = leaves
+  fault_ends present trace (faults.WrongState phase) leaves = leaves
+  fault_ends present trace (faults.NotNext place) leaves = leaves
+  fault_ends present trace (faults.PastEnd end) leaves = leaves
+  fault_ends present trace (faults.CheckpointDue bytes) leaves = leaves
+  fault_ends present trace (faults.ItemsFull count) leaves = leaves
+  fault_ends present trace (faults.WordTaken id) leaves = leaves
+  fault_ends present trace (faults.File kind) leaves = leaves
+  fault_ends present trace (faults.Journal kind) leaves = leaves
+  fault_ends present trace faults.NoMemory leaves = absurd leaves
+  fault_ends present trace (faults.Damaged place) leaves = leaves
+
+  fell_later : (present : View D O) (trace : Trace) (saves : List (List Slice)) → DeskFell tells clock says far counts scene present (with_saves trace saves) → DeskFell tells clock says far counts scene present trace
+  fell_later present trace saves fell = record {
+    after = fell.after;
+    led_is = fell.led_is;
+    lost_is = fell.lost_is;
+    rounds_are = fell.rounds_are;
+    close = fell.close;
+    recorded = fell.recorded;
+    failed = fell.failed;
+    rest = fell.rest;
+    is = fell.is;
+    goes = fell.goes;
+    planned = fell.planned;
+  }
+
+  fault_later : (present : View D O) (trace : Trace) (saves : List (List Slice)) (fault : DeskFault) → FaultEnds tells clock says far counts scene present (with_saves trace saves) fault → FaultEnds tells clock says far counts scene present trace fault
+  fault_later present trace saves faults.Broken ends = ends
+  fault_later present trace saves (faults.NoItem id) ends = ends
+  fault_later present trace saves (faults.Stale attempt round) ends = ends
+  fault_later present trace saves (faults.WrongState phase) ends = ends
+  fault_later present trace saves (faults.NotNext place) ends = ends
+  fault_later present trace saves (faults.PastEnd end) ends = ends
+  fault_later present trace saves (faults.CheckpointDue bytes) ends = ends
+  fault_later present trace saves (faults.ItemsFull count) ends = ends
+  fault_later present trace saves (faults.WordTaken id) ends = ends
+  fault_later present trace saves (faults.File kind) ends = ends
+  fault_later present trace saves (faults.Journal kind) ends = (ends.0, fell_later present trace saves ends.1)
+  fault_later present trace saves faults.NoMemory ends = ends
+  fault_later present trace saves (faults.Damaged place) ends = ends
+
+  -- what was saved before the end counts too
+  pub ends_later : (present : View D O) (trace : Trace) (saves : List (List Slice)) (cause : Cause) (end : Ended) → EndsBy tells clock says far counts scene pass present (with_saves trace saves) (stops.Broke cause) end
+      → EndsBy tells clock says far counts scene pass present trace (stops.Broke cause) end
+  ends_later present trace saves cause ended.Complete ends = ends
+  ends_later present trace saves cause (ended.Stopped reason) ends = record { cause = ends.cause; reason_is = ends.reason_is; of = ends.of; saves = ends.saves; saved = ends.saved; over = ends.over }
+  ends_later present trace saves cause (ended.Fault fault) ends = fault_later present trace saves fault ends
+
+  -- a save that was refused ends it in place of the cause
+  pub ends_refused : (before present : View D O) (trace : Trace) (cause : Cause) (stop : Stop) (end : Ended) → Refused tells clock says far counts scene pass before trace stop
+      → EndsBy tells clock says far counts scene pass present trace stop end → EndsBy tells clock says far counts scene pass present trace (stops.Broke cause) end
+  ends_refused before present trace cause (stops.Broke met) end refused ends = absurd refused
+  ends_refused before present trace cause (stops.Recorded reason) end refused ends = absurd refused
+  ends_refused before present trace cause stops.NoMemory ended.Complete refused ends = ends
+  ends_refused before present trace cause stops.NoMemory (ended.Stopped reason) refused ends = absurd ends.of
+  ends_refused before present trace cause stops.NoMemory (ended.Fault fault) refused ends = ends
+  ends_refused before present trace cause (stops.Fault met) ended.Complete refused ends = ends
+  ends_refused before present trace cause (stops.Fault met) (ended.Stopped reason) refused ends = absurd ends.of
+  ends_refused before present trace cause (stops.Fault met) (ended.Fault fault) refused ends = ends
+
+  pub recorded_ends : (present : View D O) (trace : Trace) (reason : Reason) → RecordedBy tells clock says far counts scene pass present trace reason → EndsBy tells clock says far counts scene pass present trace (stops.Recorded reason) (ended.Stopped reason)
+  recorded_ends present trace reason by = record { cause = by.cause; reason_is = by.reason_is; of = by.met; saves = by.saves; saved = tt; over = by.over }
+
+  module _ (old new : View D O) (call : CallGoes tells clock says far counts IsPart old new) (trace : Trace) (live : LiveDesk tells clock says far counts scene pass old trace) (cause : Cause) where
+    pub broke_over : BrokeAnswers old new pass cause (Ok tt) → DeskOver tells clock says far counts scene new trace (Broken cause)
+    broke_over answer = over_by tells clock says far counts scene pass old new call trace cause live answer.1
+
+    fell_broke : Fell old new (broke_by pass cause ∷ []) → DeskFell tells clock says far counts scene new trace
+    fell_broke fell =
+        let entry = entries.Broke scene.item.id (reason_of_cause cause) in
+        fell_at tells clock says far counts scene pass old new call trace trace (Broken cause) (entry ∷ []) [] refl refl refl live live.planned
+        (subst (λ (i : ItemId). Fell old new (entries.Broke i (reason_of_cause cause) ∷ [])) (own_id tells clock says far counts scene pass old trace live) fell)
+        (append-nil (so_far scene.item.id trace ++ entry ∷ []) ∙ so_closed scene.item.id scene.at trace (Broken cause))
+
+    pub broke_fault : (fault : DeskFault) → BrokeAnswers old new pass cause (Err fault) → IfSome (desk_kind fault) (λ kind. Rose (counts old.disk kind) (counts new.disk kind)) → FaultEnds tells clock says far counts scene new trace fault
+    broke_fault fault answer rose =
+        by_journal (λ (f : DeskFault). BrokeAnswers old new pass cause (Err f) → IfSome (desk_kind f) (λ kind. Rose (counts old.disk kind) (counts new.disk kind)) → FaultEnds tells clock says far counts scene new trace f)
+        (λ kind found up. journal_leaves tells clock says far counts scene pass old new call trace kind live (fell_broke found.1) up)
+        fault (hard_broke old new pass cause fault live.goes.went.broken_is (weaker old pass.id pass.attempt (IsTraced scene trace) IsUnderWay (λ item life is. tt) live.runs) answer) answer rose
+
+    -- where nothing is unsaved, what is saved is what was landed
+    pub all_saved : IsDesk tells clock old → NothingUnsaved old pass → SamePlaces (cover_by scene trace) (item_by scene trace).slices
+    all_saved desk none =
+        let is = life_is tells clock old pass (IsTraced scene trace) desk live.goes.went.broken_is live.runs in
+        let same : live.runs.life.unsaved ≡ 0 = ap (λ (l : Life). l.unsaved) (one_life old pass.id pass.attempt (IsTraced scene trace) (λ item life. life.unsaved ≡ 0) live.runs none) ∙ none.is in
+        subst (λ (i : Item). SamePlaces (cover_by scene trace) i.slices) live.runs.is.item_is
+        (subst (λ (c : List Slice). SamePlaces c live.runs.item.slices) live.runs.is.cover_is (is.same same))

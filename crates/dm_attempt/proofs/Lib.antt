@@ -1,0 +1,13 @@
+pub mod Sharing
+pub mod Goes
+pub mod Items
+pub mod Saves
+pub mod Filling
+pub mod Answers
+pub mod Steps
+pub mod Behind
+pub mod Rounds
+pub mod Planned
+pub mod Closes
+pub mod Completes
+pub mod Passes

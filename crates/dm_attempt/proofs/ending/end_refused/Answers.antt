@@ -1,0 +1,16 @@
+use Rattle.dm_store.specs.Origin.{said_of}
+use Rattle.dm_attempt.proofs.Closes.{fault_ends}
+use Rattle.dm_attempt.proofs.ending.end_refused.Goals as goal
+
+pub returns-in-Fault : goal.returns-in-Fault
+returns-in-Fault g c = record {
+  goes = λ scene trace refused. let D = g.S.D.Disk in
+      let leaves = rw c.in-Fault.is at refused in
+      fault_ends D.tells D.history (λ o. said_of (g.S.O.Origin.says o)) D.far D.faults scene c.args.pass.now (g.S.Desk.view c.args.desk.now) trace c.in-Fault.fault leaves;
+}
+
+pub returns-in-Recorded : goal.returns-in-Recorded
+returns-in-Recorded g c = record { goes = λ scene trace refused. let none = rw c.in-Recorded.is at refused in absurd none }
+
+pub returns-in-Broke : goal.returns-in-Broke
+returns-in-Broke g c = record { goes = λ scene trace refused. let none = rw c.in-Broke.is at refused in absurd none }

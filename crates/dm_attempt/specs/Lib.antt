@@ -1,0 +1,10 @@
+pub mod Shares
+pub mod Asking
+pub mod Trace
+pub mod Scene
+pub mod Goes
+pub mod Live
+pub mod Stops
+pub mod Ends
+pub mod Ending
+pub mod Finishes

@@ -1,0 +1,11 @@
+pub mod Opens
+pub mod Alive
+pub mod Planned
+pub mod Still
+pub mod Renewed
+pub mod Telling
+pub mod Named
+pub mod Starts
+pub mod Both
+pub mod Begins
+pub mod Firsts

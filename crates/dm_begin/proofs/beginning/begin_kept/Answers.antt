@@ -1,0 +1,8 @@
+use Rattle.dm_store.specs.Origin.{said_of}
+use Rattle.dm_store.specs.Store.{view_of}
+use Rattle.dm_store.proofs.Keeping.{keeps_same}
+use Rattle.dm_begin.proofs.beginning.begin_kept.Goals as goal
+
+pub returns-in_default-clause-keeps : goal.returns-in_default-clause-keeps
+returns-in_default-clause-keeps g c =
+    keeps_same g.D.Disk.tells g.D.Disk.history (λ o. said_of (g.O.Origin.says o)) (view_of c.args.store.now) (view_of c.ready_began.new.store) c.ready_began.ensures.same

@@ -1,0 +1,4 @@
+pub mod Changing
+pub mod Checking
+pub mod Due
+pub mod Page

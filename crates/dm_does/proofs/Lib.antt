@@ -1,0 +1,15 @@
+pub mod Rows
+pub mod Naming
+pub mod Fitting
+pub mod Decisions
+pub mod Behind
+pub mod Begun
+pub mod Runs
+pub mod Explained
+pub mod Statuses
+pub mod Sessions
+pub mod Waiting
+pub mod Pausing
+pub mod Openings
+pub mod Touching
+pub mod Refusing

@@ -1,0 +1,86 @@
+-- The statuses, both ways: what a status tells of a run, and when it comes.
+use Rattle.std.proofs.Common.{◌≡◌, ◌≢◌, ℕ, true, false, List, Option, Some, None, sym, ◌∙◌, ap}
+use Rattle.std.proofs.lemmas.Bool.{false≢true}
+use Rattle.dm_types.specs.declared.item.Item.{Item}
+use Rattle.dm_types.specs.declared.item.Phase.{Phase}
+use Rattle.dm_types.specs.declared.item.Phase.TheVariants as phases
+use Rattle.dm_types.specs.declared.kinds.DiskKind.{DiskKind}
+use Rattle.dm_types.specs.declared.reason.Reason.{Reason}
+use Rattle.dm_types.specs.declared.reason.Reason.TheVariants as reasons
+use Rattle.dm_item.specs.Lawful.{items_of}
+use Rattle.dm_item.specs.Listing.{item_in}
+use Rattle.dm_report.specs.Said.{Said, only}
+use Rattle.dm_report.specs.Texts.{item_line_of}
+use Rattle.dm_report.specs.declared.verdict.Verdict.{Verdict}
+use Rattle.dm_report.specs.declared.verdict.Verdict.TheVariants as verdicts
+use Rattle.dm_does.specs.declared.course.Course.{Course}
+use Rattle.dm_does.specs.declared.course.Course.TheVariants.{Ends, Brings}
+use Rattle.dm_does.specs.Answering.{Bringing, Came, Failed, all, broke, fell, stopped, unsaid}
+use Rattle.dm_does.specs.Doing.{Doing}
+use Rattle.dm_does.specs.Laws.{IsOfList}
+use Rattle.dm_does.specs.Log.{Log, kept_of}
+use Rattle.dm_does.specs.Saying.{said_by, said_in, said_interrupted, said_of}
+use Rattle.dm_does.specs.World.{World}
+
+module _ (brings : Bringing) (tells : Type 0) (before after : World) (doing : Doing) (log : Log) (said : Said) where
+  verdict_is : (verdict : Verdict) → said ≡ only verdict → said.verdict ≡ verdict
+  verdict_is verdict is = ap (λ (s : Said). s.verdict) is
+
+  -- Only where: what is said, but for a failure of the disk and for want of memory, is that of the list at the end.
+  said_all : Came brings tells before after doing log said → said.verdict ≢ verdicts.NoMemory → ((kind : DiskKind) → said.verdict ≢ verdicts.DiskFailed kind) → said ≡ said_by (items_of (kept_of log)) doing.course
+  said_all (all whole none_failed went is) no_memory no_fault = is
+  said_all (fell kind entry is_broken failed_is cut failed is) no_memory no_fault = absurd (no_fault kind (verdict_is (verdicts.DiskFailed kind) is))
+  said_all (broke kind is_broken went failed is) no_memory no_fault = absurd (no_fault kind (verdict_is (verdicts.DiskFailed kind) is))
+  said_all (stopped whole none_failed cut is) no_memory no_fault = absurd (no_memory (verdict_is verdicts.NoMemory is))
+  said_all (unsaid whole none_failed went is) no_memory no_fault = absurd (no_memory (verdict_is verdicts.NoMemory is))
+
+  -- Always where: on a desk that isn't broken, but for want of memory.
+  said_whole : Came brings tells before after doing log said → log.broken ≡ false → said.verdict ≢ verdicts.NoMemory → said ≡ said_by (items_of (kept_of log)) doing.course
+  said_whole (all whole none_failed went is) here no_memory = is
+  said_whole (fell kind entry is_broken failed_is cut failed is) here no_memory = absurd (false≢true (sym here ∙ is_broken))
+  said_whole (broke kind is_broken went failed is) here no_memory = absurd (false≢true (sym here ∙ is_broken))
+  said_whole (stopped whole none_failed cut is) here no_memory = absurd (no_memory (verdict_is verdicts.NoMemory is))
+  said_whole (unsaid whole none_failed went is) here no_memory = absurd (no_memory (verdict_is verdicts.NoMemory is))
+
+  -- A broken desk is always told as a failure of the disk, of a kind that was counted.
+  said_broken : Came brings tells before after doing log said → log.broken ≡ true → (kind : DiskKind) × Failed before after kind × (said ≡ only (verdicts.DiskFailed kind))
+  said_broken (all whole none_failed went is) here = absurd (false≢true (sym whole ∙ here))
+  said_broken (fell kind entry is_broken failed_is cut failed is) here = (kind, failed, is)
+  said_broken (broke kind is_broken went failed is) here = (kind, failed, is)
+  said_broken (stopped whole none_failed cut is) here = absurd (false≢true (sym whole ∙ here))
+  said_broken (unsaid whole none_failed went is) here = absurd (false≢true (sym whole ∙ here))
+
+-- what is said of the list is no failure of the disk
+never_by_reason : (reason : Reason) (line : List ℕ) (kind : DiskKind) → (said_interrupted reason line).verdict ≢ verdicts.DiskFailed kind
+never_by_reason reasons.NoMemory line kind is = cc
+never_by_reason reason line kind is = cc
+
+never_in_phase : (phase : Phase) (line : List ℕ) (kind : DiskKind) → (said_in phase line).verdict ≢ verdicts.DiskFailed kind
+never_in_phase phases.Complete line kind is = cc
+never_in_phase (phases.Interrupted reason) line kind is = never_by_reason reason line kind is
+never_in_phase phase line kind is = cc
+
+never_of : (found : Option Item) (kind : DiskKind) → (said_of found).verdict ≢ verdicts.DiskFailed kind
+never_of None kind is = cc
+never_of (Some item) kind is = never_in_phase item.phase (item_line_of item) kind is
+
+pub never_said : (items : List Item) (course : Course) (kind : DiskKind) → IsOfList course → (said_by items course).verdict ≢ verdicts.DiskFailed kind
+never_said items (Brings id slices) kind of_list is = never_of (item_in id.0 items) kind is
+never_said items (Ends (verdicts.DiskFailed other) show) kind of_list is = absurd of_list
+never_said items (Ends verdict show) kind of_list is = cc
+
+-- So a failure of the disk is said only where a call failed.
+pub said_failed : (brings : Bringing) (tells : Type 0) (before after : World) (doing : Doing) (log : Log) (said : Said) (kind : DiskKind) → IsOfList doing.course → Came brings tells before after doing log said
+    → said.verdict ≡ verdicts.DiskFailed kind → (log.broken ≡ true) × ((other : DiskKind) × Failed before after other × (said ≡ only (verdicts.DiskFailed other)))
+said_failed brings tells before after doing log said kind of_list (all whole none_failed went is) told =
+    absurd (never_said (items_of (kept_of log)) doing.course kind of_list (sym (ap (λ (s : Said). s.verdict) is) ∙ told))
+said_failed brings tells before after doing log said kind of_list (fell other entry is_broken failed_is cut failed is) told = (is_broken, (other, failed, is))
+said_failed brings tells before after doing log said kind of_list (broke other is_broken went failed is) told = (is_broken, (other, failed, is))
+said_failed brings tells before after doing log said kind of_list (stopped whole none_failed cut is) told = absurd (memory_not (sym (ap (λ (s : Said). s.verdict) is) ∙ told))
+  where
+    memory_not : verdicts.NoMemory ≡ verdicts.DiskFailed kind → ⊥
+    memory_not same = cc
+said_failed brings tells before after doing log said kind of_list (unsaid whole none_failed went is) told = absurd (memory_no (sym (ap (λ (s : Said). s.verdict) is) ∙ told))
+  where
+    memory_no : verdicts.NoMemory ≡ verdicts.DiskFailed kind → ⊥
+    memory_no same = cc

@@ -1,0 +1,132 @@
+-- What a run says, by what it did: over every disk and net, also those that tell nothing of what they hold.
+use Rattle.std.specs.Prelude.{◌≡◌, ◌⊎◌, ℕ, Bool, true, false, List, [], ◌∷◌, ◌++◌, reverse}
+use Rattle.dm_types.specs.Faults.{Rose}
+use Rattle.dm_types.specs.Limits.{most_items}
+use Rattle.dm_types.specs.declared.entry.Entry.{Entry}
+use Rattle.dm_types.specs.declared.item.Item.{Item}
+use Rattle.dm_types.specs.declared.item.ItemId.{ItemId}
+use Rattle.dm_types.specs.declared.kinds.DiskKind.{DiskKind}
+use Rattle.dm_item.specs.Lawful.{History, IsLawful, items_of, left_by}
+use Rattle.dm_kept.specs.Room.{IsTaken}
+use Rattle.dm_report.specs.Said.{Said, only}
+use Rattle.dm_report.specs.declared.verdict.Verdict.TheVariants.{Damaged, DiskFailed, NoMemory}
+use Rattle.dm_answers.specs.Opening.{IsTried}
+use Rattle.dm_does.specs.declared.course.Course.{Course}
+use Rattle.dm_does.specs.declared.course.Course.TheVariants.{Ends, Brings}
+use Rattle.dm_does.specs.declared.job.Job.{Job}
+use Rattle.dm_does.specs.Jobs.{HasJob, HasSomeJob, RefusesWords}
+use Rattle.dm_does.specs.Doing.{Doing, Given, does}
+use Rattle.dm_does.specs.Log.{ArePlain, Log, Run, Untouched, Unread, Unopened, Opened, kept_of, opened_of, tried_of}
+use Rattle.dm_does.specs.Saying.{said_by}
+use Rattle.dm_does.specs.World.{IsLater, NoneClosed, World}
+
+-- What is said of the driver's part: between two worlds the item of an id was brought in so many slices, behind this history. These entries were recorded
+-- of it, this one failed, where one did, and the desk is broken or not. It is told for a moment, in milliseconds since 1970, which each of its entries has.
+abbrev pub Bringing : Type 1
+Bringing = World → World → ItemId → ℕ → History → History → History → Bool → Type 0
+
+-- The driver brought the item. What was done before it and behind it made no connection, and let no count fall.
+pub record IsBrought (brings : Bringing) (tells : Type 0) (before after : World) (id : ItemId) (slices : ℕ) (history fetched failed : History) (broken : Bool) : Type 0 where
+  pub from : World
+  pub to : World
+  pub first : IsLater tells before from
+  pub last : IsLater tells to after
+  pub none_first : NoneClosed before from
+  pub none_last : NoneClosed to after
+  pub is : brings from to id slices history fetched failed broken
+
+-- nothing follows, and no connection was made
+pub record IsOver (before after : World) (fetched failed : History) (broken : Bool) : Type 0 where
+  pub none : fetched ≡ []
+  pub none_failed : failed ≡ []
+  pub whole : broken ≡ false
+  pub none_closed : NoneClosed before after
+
+-- what follows the job's own entries, by its course
+abbrev pub Follows : Bringing → Type 0 → World → World → Course → History → History → History → Bool → Type 0
+Follows brings tells before after (Ends verdict show) history fetched failed broken = IsOver before after fetched failed broken
+Follows brings tells before after (Brings id slices) history fetched failed broken = IsBrought brings tells before after id slices history fetched failed broken
+
+-- the list that a history leaves, and the moment
+abbrev pub given_by : History → ℕ → Given
+given_by history at = record { list = left_by most_items (reverse history); at = at }
+
+-- The job's own entries were recorded, all of them, and then what follows.
+pub record WentOn (brings : Bringing) (tells : Type 0) (before after : World) (doing : Doing) (log : Log) : Type 0 where
+  pub fetched : History
+  pub more_is : log.more ≡ doing.entries ++ fetched
+  pub follows : Follows brings tells before after doing.course (opened_of log ++ doing.entries) fetched log.failed log.broken
+
+-- Of the job's own entries only some of the first were tried, and no connection was made.
+pub record WasCut (before after : World) (doing : Doing) (log : Log) : Type 0 where
+  pub rest : History
+  pub entries_are : doing.entries ≡ log.more ++ (log.failed ++ rest)
+  pub none_closed : NoneClosed before after
+
+-- some call on the disk failed so
+abbrev pub Failed : World → World → DiskKind → Type 0
+Failed before after kind = Rose (before.disk_faults kind) (after.disk_faults kind)
+
+-- What a job did to a list that was opened, and what it says.
+pub data Came (brings : Bringing) (tells : Type 0) (before after : World) (doing : Doing) (log : Log) (said : Said) : Type 0 where
+  -- all of it was done: it says what it says of the items at the end
+  all : log.broken ≡ false → log.failed ≡ [] → WentOn brings tells before after doing log → said ≡ said_by (items_of (kept_of log)) doing.course → Came brings tells before after doing log said
+  -- an entry of its own failed
+  fell : (kind : DiskKind) (entry : Entry) → log.broken ≡ true → log.failed ≡ entry ∷ [] → WasCut before after doing log → Failed before after kind → said ≡ only (DiskFailed kind) → Came brings tells before after doing log said
+  -- the journal or a publication failed while an item was brought
+  broke : (kind : DiskKind) → log.broken ≡ true → WentOn brings tells before after doing log → Failed before after kind → said ≡ only (DiskFailed kind) → Came brings tells before after doing log said
+  -- memory was wanting for its own entries
+  stopped : log.broken ≡ false → log.failed ≡ [] → WasCut before after doing log → said ≡ only NoMemory → Came brings tells before after doing log said
+  -- or behind them, or for what it says
+  unsaid : log.broken ≡ false → log.failed ≡ [] → WentOn brings tells before after doing log → said ≡ only NoMemory → Came brings tells before after doing log said
+
+-- A job on a list that was opened. All that was tried is lawful behind what was found, the opening did what openings do, no later entry opens the list again, and the job's part is that
+-- of the list behind the opening.
+pub record Works (brings : ℕ → Bringing) (tells : Type 0) (before after : World) (job : Job) (at : ℕ) (log : Log) (said : Said) : Type 0 where
+  pub taken : IsTaken most_items log.found
+  pub lawful : IsLawful (log.found ++ tried_of log)
+  pub opened : IsTried tells before.disk after.disk at log.found log.opening []
+  pub once : ArePlain (log.more ++ log.failed)
+  pub came : Came (brings at) tells before after (does job (given_by (opened_of log) at)) log said
+
+-- the words are such a job, and it worked so
+pub record WorksFor (brings : ℕ → Bringing) (tells : Type 0) (words : List (List ℕ)) (at : ℕ) (before after : World) (log : Log) (said : Said) : Type 0 where
+  pub job : Job
+  pub has : HasJob words job
+  pub works : Works brings tells before after job at log said
+
+-- a call on the disk failed, or memory was wanting
+abbrev pub SaysFault : World → World → Said → Type 0
+SaysFault before after said = ((kind : DiskKind) × Failed before after kind × (said ≡ only (DiskFailed kind))) ⊎ (said ≡ only NoMemory)
+
+-- the same of a list that wasn't read, which may be damaged
+abbrev pub SaysUnread : World → World → Said → Type 0
+SaysUnread before after said = SaysFault before after said ⊎ ((place : ℕ) × (said ≡ only (Damaged place)))
+
+-- the words were refused, and nothing was done
+pub record WasRefused (words : List (List ℕ)) (before after : World) (said : Said) : Type 0 where
+  pub refused : RefusesWords words said.verdict
+  pub nothing : said ≡ only said.verdict
+  pub same : after ≡ before
+
+-- the words are a job, but no journal was read
+pub record WasUnread (words : List (List ℕ)) (before after : World) (said : Said) : Type 0 where
+  pub has : HasSomeJob words
+  pub none_closed : NoneClosed before after
+  pub says : SaysUnread before after said
+
+-- the words are a job, but the opening was refused behind what it read
+pub record WasUnopened (tells : Type 0) (words : List (List ℕ)) (at : ℕ) (before after : World) (found recorded rest : History) (said : Said) : Type 0 where
+  pub has : HasSomeJob words
+  pub none_closed : NoneClosed before after
+  pub says : SaysFault before after said
+  pub lawful : IsLawful (found ++ (recorded ++ rest))
+  pub left : List Item
+  pub tried : IsTried tells before.disk after.disk at found (recorded ++ rest) left
+
+-- what a run says, by how far it came
+abbrev pub Answers : (ℕ → Bringing) → Type 0 → List (List ℕ) → ℕ → World → World → Said → Run → Type 0
+Answers brings tells words at before after said Untouched = WasRefused words before after said
+Answers brings tells words at before after said Unread = WasUnread words before after said
+Answers brings tells words at before after said (Unopened found recorded rest) = WasUnopened tells words at before after found recorded rest said
+Answers brings tells words at before after said (Opened log) = WorksFor brings tells words at before after log said

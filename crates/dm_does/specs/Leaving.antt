@@ -1,0 +1,97 @@
+-- What a run leaves on a disk that tells what it holds: what a crash at any moment leaves, the user's files, and what the next run begins with.
+use Rattle.std.specs.Prelude.{◌≡◌, ◌⊎◌, ℕ, true, false, List, ◌∷◌, ◌++◌, Some}
+use Rattle.dm_types.specs.Limits.{most_items}
+use Rattle.dm_types.specs.Name.{IsPart}
+use Rattle.dm_types.specs.declared.entry.Entry.TheVariants as entries
+use Rattle.dm_types.specs.declared.item.Item.{Item}
+use Rattle.dm_types.specs.declared.item.ItemId.{ItemId}
+use Rattle.dm_disk_model.specs.Beside.{Besides}
+use Rattle.dm_disk_model.specs.Disk.{DiskState, History as Clock, bytes_at, now}
+use Rattle.dm_disk_model.specs.Moments.{LeavesOnly, Throughout}
+use Rattle.dm_item.specs.Lawful.{History, items_of}
+use Rattle.dm_item.specs.Listing.{item_in}
+use Rattle.dm_journal.specs.AtRest.{journal_place}
+use Rattle.dm_journal.specs.Starting.{WasLeft}
+use Rattle.dm_kept.specs.Files.{Says, says_all}
+use Rattle.dm_kept.specs.Kept.{Kept}
+use Rattle.dm_kept.specs.Recovery.{Found, Through}
+use Rattle.dm_kept.specs.Spelled.{Records}
+use Rattle.dm_report.specs.declared.verdict.Verdict.{Verdict}
+use Rattle.dm_report.specs.declared.verdict.Verdict.TheVariants.{Damaged}
+use Rattle.dm_answers.specs.Reads.{IsGivenName}
+use Rattle.dm_answers.specs.Opening.{IsNear, IsUnchanged, LeavesSome, ReadsDamage}
+use Rattle.dm_does.specs.Log.{Run, Untouched, Unread, Unopened, Opened, found_in, kept_of, tried_in}
+
+-- Of each disk, whatever it held.
+
+-- what a crash at each moment leaves
+abbrev pub RunLeaves : Clock → Clock → Run → Type 0
+RunLeaves start end Untouched = end ≡ start
+RunLeaves start end Unread = LeavesOnly start end (WasLeft (now start))
+RunLeaves start end (Unopened found recorded rest) = Throughout start end (LeavesSome (now start) found (recorded ++ rest))
+RunLeaves start end (Opened log) = Throughout start end (LeavesSome (now start) log.found (tried_in (Opened log)))
+
+-- The run tried to record that the item with this name has its whole content: from there on the name may be given to it.
+pub record IsFinished (found tried : History) (name : List ℕ) : Type 0 where
+  pub front : History
+  pub id : ItemId
+  pub total : ℕ
+  pub back : History
+  pub tried_is : tried ≡ front ++ entries.Finishing id total ∷ back
+  pub item : Item
+  pub there : item_in id.0 (items_of (found ++ front)) ≡ Some item
+  pub named : item.name ≡ Some name
+
+-- The name is a part's; or that of an item that an earlier run left there, whose part stands at the start and whose name is free; or of one that this run finished.
+abbrev pub IsTouched : Clock → History → History → List ℕ → Type 0
+IsTouched start found tried name = IsPart name ⊎ (IsGivenName (λ (clock : Clock). clock) start name ⊎ IsFinished found tried name)
+
+-- each other name has in each image what an image at the start had there
+abbrev pub LeavesFiles : Clock → Clock → Run → Type 0
+LeavesFiles start end run = Besides (IsTouched start (found_in run) (tried_in run)) start end
+
+-- what reads as the journal at the end is what was found, and what was recorded behind it
+abbrev pub HoldsLog : Clock → Run → Type 0
+HoldsLog end (Opened log) = log.broken ≡ false → Records (bytes_at (now end) journal_place) (kept_of log)
+HoldsLog end _ = Unit {0}
+
+-- What a crash at the end leaves: all that was recorded, and perhaps what was tried besides. Where no entry failed it is just that.
+abbrev pub EndsWith : DiskState → Run → Type 0
+EndsWith disk Untouched = Unit {0}
+EndsWith disk Unread = Unit {0}
+EndsWith disk (Unopened found recorded rest) = Kept false says_all (Through (found ++ recorded) rest) disk
+EndsWith disk (Opened log) = Kept false says_all (Through (kept_of log) log.failed) disk
+
+-- a journal that is told as damaged is damaged at that place, and nothing was written
+abbrev pub ShowsDamage : Clock → Clock → Verdict → Type 0
+ShowsDamage start end (Damaged place) = ReadsDamage (now start) most_items place × IsUnchanged start end
+ShowsDamage start end _ = Unit {0}
+
+pub record Leaves (start end : Clock) (far far' : ℕ) (verdict : Verdict) (run : Run) : Type 0 where
+  pub moments : RunLeaves start end run
+  pub ends : EndsWith (now end) run
+  pub files : LeavesFiles start end run
+  pub holds : HoldsLog end run
+  pub damage : ShowsDamage start end verdict
+  pub near : IsNear (found_in run ++ tried_in run) far far'
+
+-- Of a disk that only this program wrote: each crash leaves the items after some list, all of it sound.
+
+-- what a run may leave besides what the start might have left
+abbrev pub TriedBy : Run → Found → Type 0
+TriedBy Untouched recovered = ⊥
+TriedBy Unread recovered = ⊥
+TriedBy (Unopened found recorded rest) recovered = Through found (recorded ++ rest) recovered
+TriedBy (Opened log) recovered = Through log.found (tried_in (Opened log)) recovered
+
+-- What is kept at the end: as at the start, where no journal was found; else all that was recorded behind it, and perhaps what was tried besides.
+abbrev pub EndsKept : Says → History → History → Run → DiskState → Type 0
+EndsKept says kept rest Untouched disk = Kept true says (Through kept rest) disk
+EndsKept says kept rest Unread disk = Kept true says (Through kept rest) disk
+EndsKept says kept rest (Unopened found recorded more) disk = Kept true says (Through (found ++ recorded) more) disk
+EndsKept says kept rest (Opened log) disk = Kept true says (Through (kept_of log) log.failed) disk
+
+-- from a disk that keeps these entries, and perhaps some of the rest
+pub record KeepsAll (says : Says) (start end : Clock) (kept rest : History) (run : Run) : Type 0 where
+  pub moments : Throughout start end (Kept true says (λ recovered. Through kept rest recovered ⊎ TriedBy run recovered))
+  pub after : EndsKept says kept rest run (now end)

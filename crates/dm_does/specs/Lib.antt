@@ -1,0 +1,13 @@
+pub mod Jobs
+pub mod Doing
+pub mod Saying
+pub mod Deciding
+pub mod Laws
+pub mod World
+pub mod Printing
+pub mod Log
+pub mod Answering
+pub mod Leaving
+pub mod Explaining
+pub mod Headline
+pub mod Session

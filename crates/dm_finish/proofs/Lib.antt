@@ -1,0 +1,10 @@
+pub mod Begun
+pub mod Behind
+pub mod Closings
+pub mod Finishes
+pub mod Givings
+pub mod Named
+pub mod NeverShort
+pub mod Readies
+pub mod Sums
+pub mod Wholes

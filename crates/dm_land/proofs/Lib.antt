@@ -1,0 +1,11 @@
+pub mod Grown
+pub mod Landed
+pub mod Lifted
+pub mod Pauses
+pub mod Refused
+pub mod Saves
+pub mod Shutdown
+pub mod Shuts
+pub mod Steps
+pub mod Torn
+pub mod Written

@@ -1,0 +1,4 @@
+pub mod Finishings
+pub mod Opened
+pub mod Resumed
+pub mod Unread

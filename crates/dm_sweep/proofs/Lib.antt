@@ -1,0 +1,4 @@
+pub mod Leftovers
+pub mod Listed
+pub mod Stills
+pub mod Swept

@@ -1,0 +1,7 @@
+//! The sweep of a desk: parts that none needs are removed.
+#![tactic(auto)]
+
+mod leftover;
+mod sweeping;
+
+pub use sweeping::sweep;
