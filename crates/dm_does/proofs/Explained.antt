@@ -34,15 +34,14 @@ settled_plain tells start end at [] (entry ∷ more) left are = absurd are
 settled_plain tells start end at (item ∷ rest) (entry ∷ more) left are = entry_plain at item entry more are.0.settles (settled_plain tells start end at rest more left are.1)
 
 behind_opened : (tells : Type 0) (start end : Clock) (at : ℕ) (log : Log) → tells → IsLawful (log.found ++ tried_of log) → IsTried tells start end at log.found log.opening [] → ArePlain (log.more ++ log.failed)
-    → IsBehind (now start) log.found (recorded_in (Opened log) ++ log.failed)
+    → IsBehind (now start) log.found (tried_of log)
 behind_opened tells start end at log told lawful opened once = record {
   reads = opened.reads told;
-  lawful = subst (λ (h : History). IsLawful (log.found ++ h)) (sym (append_assoc log.opening log.more log.failed)) lawful;
+  lawful = lawful;
   at = at;
   rest = opened.settled ++ (log.more ++ log.failed);
   tried_is =
-      append_assoc log.opening log.more log.failed
-      ∙ ap (λ (h : History). h ++ (log.more ++ log.failed)) opened.tried_is
+      ap (λ (h : History). h ++ (log.more ++ log.failed)) opened.tried_is
       ∙ append_assoc (reopening log.found at) opened.settled (log.more ++ log.failed);
   plain = plain_append opened.settled (log.more ++ log.failed) (settled_plain tells start end at (finishing (items_of (log.found ++ reopening log.found at))) opened.settled [] opened.settles) once;
 }
@@ -50,7 +49,7 @@ behind_opened tells start end at log told lawful opened once = record {
 opens_once : (brings : ℕ → Bringing) (tells : Type 0) (words : List (List ℕ)) (at : ℕ) (before after : World) (said : Said) (run : Run) → tells → Answers brings tells words at before after said run → OpensOnce (now before.disk) run
 opens_once brings tells words at before after said Untouched told answers = tt
 opens_once brings tells words at before after said Unread told answers = tt
-opens_once brings tells words at before after said (Unopened found recorded rest) told answers = record {
+opens_once brings tells words at before after said (Unopened found recorded failed rest) told answers = record {
   reads = answers.tried.reads told;
   lawful = answers.lawful;
   at = at;

@@ -4,6 +4,8 @@ pub mod Fitting
 pub mod Decisions
 pub mod Behind
 pub mod Begun
+pub mod Whole
+pub mod Added
 pub mod Runs
 pub mod Explained
 pub mod Statuses
@@ -12,4 +14,6 @@ pub mod Waiting
 pub mod Pausing
 pub mod Openings
 pub mod Touching
+pub mod Sweeping
 pub mod Refusing
+pub mod Completing

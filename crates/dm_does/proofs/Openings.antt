@@ -1,14 +1,16 @@
 -- What an opening tried stays so at every later moment.
-use Rattle.std.proofs.Common.{ℕ, Bool, true, false, List, [], ◌∷◌, ◌++◌, Option, sym, subst, arith}
+use Rattle.std.proofs.Common.{◌≡◌, ℕ, Bool, true, false, List, [], ◌∷◌, ◌++◌, Option, sym, subst, arith}
 use Rattle.dm_types.specs.declared.entry.Entry.{Entry}
+use Rattle.dm_types.specs.declared.entry.Entry.TheVariants as entries
 use Rattle.dm_types.specs.declared.item.Item.{Item}
 use Rattle.dm_disk_model.specs.declared.place.Place.{Place}
 use Rattle.dm_disk_model.specs.Disk.{DiskState, History as Clock, bytes_at}
 use Rattle.dm_disk_model.specs.Moments.{Throughout}
 use Rattle.dm_item.specs.Lawful.{History, items_of}
 use Rattle.dm_answers.specs.Opening.{IsTried, reopening}
-use Rattle.dm_answers.specs.Settling.{AreSettlings, SettledAs, WasAt, finishing, name_place, stands}
+use Rattle.dm_answers.specs.Settling.{AreDone, AreSettlings, SettledAs, WasAt, finishing, name_place, stands}
 use Rattle.dm_store.specs.Lives.{part_place}
+use Rattle.dm_does.specs.Leaving.{NoneBroke}
 
 module _ (start mid end : Clock) where
   -- the earlier moments stay
@@ -47,3 +49,12 @@ module _ (start mid end : Clock) where
     tried_is = is.tried_is;
     settles = settlings_later tells at (finishing (items_of (found ++ reopening found at))) is.settled left stays is.settles;
   }
+
+-- an opening that settled each item as complete interrupted none
+none_broke : (settled : History) → AreDone settled → NoneBroke settled
+none_broke [] done = tt
+none_broke (entries.Done id digest at ∷ settled) done = none_broke settled done
+none_broke (entry ∷ settled) done = absurd done
+
+pub opening_done : (found opening settled : History) (at : ℕ) → opening ≡ reopening found at ++ settled → AreDone settled → NoneBroke opening
+opening_done found opening settled at is done = subst NoneBroke (sym is) (none_broke settled done)

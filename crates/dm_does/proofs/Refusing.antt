@@ -33,7 +33,7 @@ pub no_job_refused : (brings : ℕ → Bringing) (tells : Type 0) (words : List 
     → IsRefusal words before after said run
 no_job_refused brings tells words at before after said Untouched none answers = record { run_is = refl; same = answers.same; refused = answers.refused }
 no_job_refused brings tells words at before after said Unread none answers = absurd (none answers.has)
-no_job_refused brings tells words at before after said (Unopened found recorded rest) none answers = absurd (none answers.has)
+no_job_refused brings tells words at before after said (Unopened found recorded failed rest) none answers = absurd (none answers.has)
 no_job_refused brings tells words at before after said (Opened log) none answers = absurd (none (record { job = answers.job; has = answers.has }))
 
 -- only where: words that are a job are refused for want of memory alone

@@ -19,7 +19,7 @@ use Rattle.dm_report.specs.declared.verdict.Verdict.TheVariants as verdicts
 use Rattle.dm_answers.specs.declared.order.Order.{Order}
 use Rattle.dm_store.specs.Becomes.{run_of}
 use Rattle.dm_does.specs.declared.course.Course.TheVariants.{Ends, Brings}
-use Rattle.dm_does.specs.declared.course.Show.TheVariants.{Line}
+use Rattle.dm_does.specs.declared.course.Show.TheVariants.{Nothing, Line}
 use Rattle.dm_does.specs.declared.job.Job.{Job}
 use Rattle.dm_does.specs.declared.job.Job.TheVariants as jobs
 use Rattle.dm_does.specs.Doing.{Given, does, ends, records, refuses}
@@ -249,3 +249,66 @@ row_damaged_line = refl
 row_full_line : errs_of (verdicts.ItemsFull 4096) ≡ codes "items full 4096\n"
 unfolding digits
 row_full_line = refl
+
+-- what each change answers, by the state of its item
+
+row_pause_none : says (jobs.Pause (numbered 7)) (given 2 (waiting 1 [] ∷ [])) ≡ only (verdicts.NoItem (numbered 7))
+row_pause_none = refl
+
+row_pause_interrupted : says (jobs.Pause (numbered 1)) (given 2 (put (phases.Interrupted reasons.NetworkTimeout) (Some reasons.NetworkTimeout) (waiting 1 []) ∷ [])) ≡ tells verdicts.Done (codes "1 paused 0 ? -\n")
+unfolding digits
+row_pause_interrupted = refl
+
+row_pause_complete : says (jobs.Pause (numbered 1)) (given 2 (brought (waiting 1 []) ∷ [])) ≡ only (verdicts.WrongState phases.Complete)
+row_pause_complete = refl
+
+row_pause_cancelled : says (jobs.Pause (numbered 1)) (given 2 (put phases.Cancelled (Some reasons.UserCanceled) (waiting 1 []) ∷ [])) ≡ only (verdicts.WrongState phases.Cancelled)
+row_pause_cancelled = refl
+
+row_pause_cancelled_line : errs_of (verdicts.WrongState phases.Cancelled) ≡ codes "state cancelled\n"
+row_pause_cancelled_line = refl
+
+-- the list is as it was where a change is refused
+row_pause_refused : behind (jobs.Pause (numbered 1)) (given 2 (brought (waiting 1 []) ∷ [])) ≡ brought (waiting 1 []) ∷ []
+row_pause_refused = refl
+
+row_resume_none : says (jobs.Resume (numbered 7) 1) (given 2 (waiting 1 [] ∷ [])) ≡ only (verdicts.NoItem (numbered 7))
+row_resume_none = refl
+
+-- an item that waits is brought, and nothing is recorded before
+row_resume_waiting : does (jobs.Resume (numbered 1) 16) (given 2 (waiting 1 [] ∷ [])) ≡ record { entries = []; course = Brings (numbered 1) 16 }
+row_resume_waiting = refl
+
+row_resume_cancelled : says (jobs.Resume (numbered 1) 1) (given 2 (put phases.Cancelled (Some reasons.UserCanceled) (waiting 1 []) ∷ [])) ≡ only (verdicts.WrongState phases.Cancelled)
+row_resume_cancelled = refl
+
+row_resume_finishing : says (jobs.Resume (numbered 1) 1) (given 2 (put phases.Finishing None (waiting 1 []) ∷ [])) ≡ only (verdicts.WrongState phases.Finishing)
+row_resume_finishing = refl
+
+row_cancel_waiting : does (jobs.Cancel (numbered 1)) (given 2 (waiting 1 [] ∷ [])) ≡ records (entries.Cancelled (numbered 1)) (Ends verdicts.Done (Line (numbered 1)))
+row_cancel_waiting = refl
+
+row_cancel_paused : says (jobs.Cancel (numbered 1)) (given 2 (put phases.Paused None (waiting 1 []) ∷ [])) ≡ tells verdicts.Done (codes "1 cancelled 0 ? -\n")
+unfolding digits
+row_cancel_paused = refl
+
+-- a cancelled item keeps its word, and can be removed
+row_cancel_word : says (jobs.Add (order_for (codes "w1") (codes "http://h/a"))) (given 2 (behind (jobs.Cancel (numbered 1)) (given 2 (waiting 1 (codes "w1") ∷ [])))) ≡ tells verdicts.Done (codes "1 cancelled 0 ? -\n")
+unfolding digits
+row_cancel_word = refl
+
+row_remove_none : says (jobs.Remove (numbered 7)) (given 2 (waiting 1 [] ∷ [])) ≡ only (verdicts.NoItem (numbered 7))
+row_remove_none = refl
+
+row_remove_complete : does (jobs.Remove (numbered 1)) (given 2 (brought (waiting 1 []) ∷ [])) ≡ records (entries.Removed (numbered 1)) (Ends verdicts.Done Nothing)
+row_remove_complete = refl
+
+row_remove_cancelled : behind (jobs.Remove (numbered 1)) (given 2 (put phases.Cancelled (Some reasons.UserCanceled) (waiting 1 []) ∷ [])) ≡ []
+row_remove_cancelled = refl
+
+-- what an attempt runs on, or is being finished, isn't removed
+row_remove_running : says (jobs.Remove (numbered 1)) (given 2 (put phases.Running None (waiting 1 []) ∷ [])) ≡ only (verdicts.WrongState phases.Running)
+row_remove_running = refl
+
+row_remove_finishing : says (jobs.Remove (numbered 1)) (given 2 (put phases.Finishing None (waiting 1 []) ∷ [])) ≡ only (verdicts.WrongState phases.Finishing)
+row_remove_finishing = refl

@@ -1,23 +1,26 @@
 -- Whatever runs and crashes led to a disk, it keeps what was acknowledged.
-use Rattle.std.proofs.Common.{◌≡◌, ◌⊎◌, inl, inr, true, [], ◌∷◌, ◌++◌, refl, sym, ◌∙◌, ap, subst, append_assoc}
+use Rattle.std.proofs.Common.{◌≡◌, ◌⊎◌, inl, inr, ℕ, ◌≤◌, true, List, [], ◌∷◌, ◌++◌, refl, sym, ◌∙◌, ap, subst, append_assoc}
 use Rattle.std.proofs.lemmas.List.{append-nil}
-use Rattle.dm_disk_model.specs.Disk.{DiskState, History as Clock, IsSoundDisk, now, reading}
+use Rattle.dm_types.specs.declared.item.Item.{Item}
+use Rattle.dm_disk_model.specs.Disk.{DiskState, Image, History as Clock, IsSoundDisk, MayLeave, now, reading}
 use Rattle.dm_disk_model.specs.Folder.{contents_of}
 use Rattle.dm_disk_model.proofs.Images.{as_read}
-use Rattle.dm_item.specs.Lawful.{History, IsLawful}
+use Rattle.dm_item.specs.Lawful.{History, IsLawful, items_of}
 use Rattle.dm_item.proofs.Lasting.{done_once}
 use Rattle.dm_journal.specs.AtRest.{journal_name}
-use Rattle.dm_kept.specs.Files.{Says}
-use Rattle.dm_kept.specs.Kept.{Kept}
+use Rattle.dm_kept.specs.Files.{Says, Sound}
+use Rattle.dm_kept.specs.Kept.{Kept, Recovers}
 use Rattle.dm_kept.specs.Recovery.{Found, Through, recovered}
 use Rattle.dm_kept.proofs.Histories.{records_one}
 use Rattle.dm_kept.proofs.Resting.{empty_kept, kept_weaker}
 use Rattle.dm_answers.specs.Opening.{reopening}
-use Rattle.dm_does.specs.Headline.{AnyRuns, IsBehind, IsSafe, OpensOnce, Within, both, crashed, extra, fresh, lost, none, ran}
+use Rattle.dm_does.specs.Headline.{Adds, AnyRuns, Cut, Ended, IsBehind, IsFrontOf, IsListOf, IsSafeImage, OpensOnce, Piece, beside, crashed, cut, ended, fresh, lost, next, none, ran, Lives}
 use Rattle.dm_does.specs.Leaving.{KeepsAll, TriedBy}
-use Rattle.dm_does.specs.Log.{Run, Untouched, Unread, Unopened, Opened, recorded_in}
+use Rattle.dm_does.specs.Log.{Run, Untouched, Unread, Unopened, Opened, failed_in, recorded_in, tried_in}
+use Rattle.dm_does.proofs.Added.{added_kept}
 use Rattle.dm_does.proofs.Begun.{begins_kept}
 use Rattle.dm_does.proofs.Behind.{FitAll, behind_all, fit_split, lawful_front, plain_fit, through_same}
+use Rattle.dm_does.proofs.Whole.{never_less, there}
 
 -- a list, and how much of what was pending behind it survived
 record Survives (whole rest : History) (found : Found) : Type 0 where
@@ -33,99 +36,201 @@ survives whole (e ∷ rest) found (inr more) =
     let one = survives (whole ++ e ∷ []) rest found more in
     record { survived = e ∷ one.survived; later = one.later; rest_is = ap (λ (h : History). e ∷ h) one.rest_is; is = one.is ∙ ap recovered (append_assoc whole (e ∷ []) one.survived) }
 
-safe_of : (says : Says) (acknowledged whole rest : History) (disk : DiskState) → Within acknowledged whole → IsLawful (whole ++ rest) → Kept true says (Through whole rest) disk → IsSafe says acknowledged disk
-safe_of says acknowledged whole rest disk holds lawful kept = record { whole = whole; rest = rest; holds = holds; lawful = lawful; once = done_once (whole ++ rest) lawful; kept = kept }
+-- The disk keeps a list, and perhaps some of the rest behind it: each of these lists is one that the runs left.
+record Stands (says : Says) (pieces : List Piece) (disk : DiskState) : Type 0 where
+  whole : History
+  rest : History
+  lists : (front : History) → IsFrontOf rest front → IsListOf pieces (whole ++ front)
+  lawful : IsLawful (whole ++ rest)
+  kept : Kept true says (Through whole rest) disk
 
-same_acknowledged : (says : Says) (acknowledged : History) (disk : DiskState) → IsSafe says acknowledged disk → IsSafe says (acknowledged ++ []) disk
-same_acknowledged says acknowledged disk safe = subst (λ (h : History). IsSafe says h disk) (sym (append-nil acknowledged)) safe
+-- nothing is pending behind this list
+stands_on : (says : Says) (pieces : List Piece) (disk : DiskState) (list : History) → IsListOf pieces list → IsLawful list → Kept true says (λ found. found ≡ recovered list) disk → Stands says pieces disk
+stands_on says pieces disk list of lawful kept = record {
+  whole = list;
+  rest = [];
+  lists = λ front is. subst (IsListOf pieces) (sym (append-nil list) ∙ ap (λ (h : History). list ++ h) (nothing front is.rest is.is)) of;
+  lawful = subst IsLawful (sym (append-nil list)) lawful;
+  kept = kept;
+}
+  where
+    nothing : (front rest : History) → [] ≡ front ++ rest → [] ≡ front
+    nothing [] rest is = refl
+    nothing (e ∷ front) rest is = cc
 
--- what reads at the start is what is kept there
-record Grounded (says : Says) (acknowledged : History) (start : DiskState) (found tried : History) : Type 0 where
+-- what survived is one of the lists
+record Survived (says : Says) (pieces : List Piece) (found : Found) : Type 0 where
+  list : History
+  of : IsListOf pieces list
+  lawful : IsLawful list
+  is : found ≡ recovered list
+
+survived_in : (says : Says) (pieces : List Piece) (disk : DiskState) (found : Found) (on : Stands says pieces disk) → Through on.whole on.rest found → Survived says pieces found
+survived_in says pieces disk found on through =
+    let split = survives on.whole on.rest found through in
+    let lawful : IsLawful ((on.whole ++ split.survived) ++ split.later) =
+    subst IsLawful (sym (append_assoc on.whole split.survived split.later)) (subst (λ (h : History). IsLawful (on.whole ++ h)) split.rest_is on.lawful) in
+    record {
+      list = on.whole ++ split.survived;
+      of = on.lists split.survived (record { rest = split.later; is = split.rest_is });
+      lawful = lawful_front (on.whole ++ split.survived) split.later lawful;
+      is = split.is;
+    }
+
+-- what reads at the start is one of the lists
+record Grounded (says : Says) (pieces : List Piece) (found tried : History) : Type 0 where
   base : History
-  holds : Within acknowledged base
+  of : IsListOf pieces base
   lawful : IsLawful base
   same : recovered found ≡ recovered base
   whole : IsLawful (found ++ tried)
   fits : FitAll found tried
 
-grounded : (says : Says) (acknowledged : History) (start : DiskState) (found tried : History) → IsSoundDisk start → IsSafe says acknowledged start → IsBehind start found tried → Grounded says acknowledged start found tried
-grounded says acknowledged start found tried sound safe behind =
-    let image = safe.kept (reading start) (as_read start sound) in
+grounded : (says : Says) (pieces : List Piece) (start : DiskState) (found tried : History) → IsSoundDisk start → Stands says pieces start → IsBehind start found tried → Grounded says pieces found tried
+grounded says pieces start found tried sound on behind =
+    let image = on.kept (reading start) (as_read start sound) in
     let same : image.history ≡ found = records_one (contents_of start.state journal_name) image.history found image.recorded behind.reads in
-    let through : Through safe.whole safe.rest (recovered found) = subst (λ (h : History). Through safe.whole safe.rest (recovered h)) same image.items in
-    let split = survives safe.whole safe.rest (recovered found) through in
-    let lawful : IsLawful ((safe.whole ++ split.survived) ++ split.later) =
-    subst IsLawful (sym (append_assoc safe.whole split.survived split.later)) (subst (λ (h : History). IsLawful (safe.whole ++ h)) split.rest_is safe.lawful) in
+    let one = survived_in says pieces start (recovered found) on (subst (λ (h : History). Through on.whole on.rest (recovered h)) same image.items) in
     record {
-      base = safe.whole ++ split.survived;
-      holds = extra acknowledged safe.whole split.survived safe.holds;
-      lawful = lawful_front (safe.whole ++ split.survived) split.later lawful;
-      same = split.is;
+      base = one.list;
+      of = one.of;
+      lawful = one.lawful;
+      same = one.is;
       whole = behind.lawful;
       fits = subst (FitAll found) (sym behind.tried_is) (refl, plain_fit (found ++ reopening found behind.at) behind.rest behind.plain);
     }
 
--- a run that ended behind what it read
-ended : (says : Says) (acknowledged : History) (start disk : DiskState) (found recorded pending : History) → Grounded says acknowledged start found (recorded ++ pending)
-    → Kept true says (Through (found ++ recorded) pending) disk → IsSafe says (acknowledged ++ recorded) disk
-ended says acknowledged start disk found recorded pending on kept =
-    let split = fit_split found recorded pending on.fits in
-    let whole : IsLawful ((found ++ recorded) ++ pending) = subst IsLawful (sym (append_assoc found recorded pending)) on.whole in
-    let more = behind_all found on.base recorded on.lawful on.same (lawful_front (found ++ recorded) pending whole) split.0 in
-    let all = behind_all (found ++ recorded) (on.base ++ recorded) pending more.0 more.1 whole split.1 in
-    safe_of says (acknowledged ++ recorded) (on.base ++ recorded) pending disk (both acknowledged on.base recorded on.holds) all.0
-    (kept_weaker true says (Through (found ++ recorded) pending) (Through (on.base ++ recorded) pending) disk
-    (λ found_now is. through_same (found ++ recorded) (on.base ++ recorded) pending found_now more.0 more.1 whole split.1 is) kept)
+-- Entries that were tried behind what reads are so behind the list that the runs left.
+record Moved (found base more : History) : Type 0 where
+  lawful : IsLawful (base ++ more)
+  same : recovered (found ++ more) ≡ recovered (base ++ more)
 
-by_run : (says : Says) (start end : Clock) (acknowledged : History) (run : Run) → IsSafe says acknowledged (now start) → IsSoundDisk (now start) → OpensOnce (now start) run
-    → ((kept rest : History) → Kept true says (Through kept rest) (now start) → KeepsAll says start end kept rest run) → IsSafe says (acknowledged ++ recorded_in run) (now end)
-by_run says start end acknowledged Untouched safe sound opens keeps =
-    same_acknowledged says acknowledged (now end) (safe_of says acknowledged safe.whole safe.rest (now end) safe.holds safe.lawful (keeps safe.whole safe.rest safe.kept).after)
-by_run says start end acknowledged Unread safe sound opens keeps =
-    same_acknowledged says acknowledged (now end) (safe_of says acknowledged safe.whole safe.rest (now end) safe.holds safe.lawful (keeps safe.whole safe.rest safe.kept).after)
-by_run says start end acknowledged (Unopened found recorded rest) safe sound opens keeps =
-    ended says acknowledged (now start) (now end) found recorded rest (grounded says acknowledged (now start) found (recorded ++ rest) sound safe opens) (keeps safe.whole safe.rest safe.kept).after
-by_run says start end acknowledged (Opened log) safe sound opens keeps =
-    ended says acknowledged (now start) (now end) log.found (recorded_in (Opened log)) log.failed
-    (grounded says acknowledged (now start) log.found (recorded_in (Opened log) ++ log.failed) sound safe opens) (keeps safe.whole safe.rest safe.kept).after
+moved : (says : Says) (pieces : List Piece) (found more behind : History) (on : Grounded says pieces found (more ++ behind)) → Moved found on.base more
+moved says pieces found more behind on =
+    let longer : IsLawful ((found ++ more) ++ behind) = subst IsLawful (sym (append_assoc found more behind)) on.whole in
+    let all = behind_all found on.base more on.lawful on.same (lawful_front (found ++ more) behind longer) (fit_split found more behind on.fits).0 in
+    record { lawful = all.0; same = all.1 }
 
--- a crash in a run that read what it tried to add to
-cut : (says : Says) (acknowledged : History) (start disk : DiskState) (found tried history : History) → Grounded says acknowledged start found tried → Through found tried (recovered history)
-    → Kept true says (λ recovered_now. recovered_now ≡ recovered history) disk → IsSafe says acknowledged disk
-cut says acknowledged start disk found tried history on through kept =
-    let all = behind_all found on.base tried on.lawful on.same on.whole on.fits in
-    let here : Through on.base tried (recovered history) = through_same found on.base tried (recovered history) on.lawful on.same on.whole on.fits through in
-    safe_of says acknowledged on.base tried disk on.holds all.0
-    (kept_weaker true says (λ recovered_now. recovered_now ≡ recovered history) (Through on.base tried) disk (λ recovered_now is. subst (Through on.base tried) (sym is) here) kept)
+-- A run that ended behind what it read: what failed may stand.
+by_end : (says : Says) (pieces : List Piece) (disk : DiskState) (found recorded failed rest : History) → Grounded says pieces found (recorded ++ (failed ++ rest)) → Kept true says (Through (found ++ recorded) failed) disk
+    → Stands says (Ended recorded failed ∷ pieces) disk
+by_end says pieces disk found recorded failed rest on kept =
+    let first = moved says pieces found recorded (failed ++ rest) on in
+    let whole : IsLawful ((found ++ recorded) ++ (failed ++ rest)) = subst IsLawful (sym (append_assoc found recorded (failed ++ rest))) on.whole in
+    let longer : IsLawful (((found ++ recorded) ++ failed) ++ rest) = subst IsLawful (sym (append_assoc (found ++ recorded) failed rest)) whole in
+    let upto : IsLawful ((found ++ recorded) ++ failed) = lawful_front ((found ++ recorded) ++ failed) rest longer in
+    let fits : FitAll (found ++ recorded) failed = (fit_split (found ++ recorded) failed rest (fit_split found recorded (failed ++ rest) on.fits).1).0 in
+    record {
+      whole = on.base ++ recorded;
+      rest = failed;
+      lists = λ front is. subst (IsListOf (Ended recorded failed ∷ pieces)) (sym (append_assoc on.base recorded front))
+          (next pieces on.base (Ended recorded failed) (recorded ++ front) on.of (record { late = front; front = is; is = refl }));
+      lawful = (behind_all (found ++ recorded) (on.base ++ recorded) failed first.lawful first.same upto fits).0;
+      kept = kept_weaker true says (Through (found ++ recorded) failed) (Through (on.base ++ recorded) failed) disk
+          (λ found_now is. through_same (found ++ recorded) (on.base ++ recorded) failed found_now first.lawful first.same upto fits is) kept;
+    }
 
--- a crash that left what the start might have left
-unchanged : (says : Says) (acknowledged : History) (start disk : DiskState) (history : History) (safe : IsSafe says acknowledged start) → Through safe.whole safe.rest (recovered history)
-    → Kept true says (λ recovered_now. recovered_now ≡ recovered history) disk → IsSafe says acknowledged disk
-unchanged says acknowledged start disk history safe through kept =
-    safe_of says acknowledged safe.whole safe.rest disk safe.holds safe.lawful
-    (kept_weaker true says (λ recovered_now. recovered_now ≡ recovered history) (Through safe.whole safe.rest) disk (λ recovered_now is. subst (Through safe.whole safe.rest) (sym is) through) kept)
+-- a run that did nothing to the list
+by_none : (says : Says) (pieces : List Piece) (start disk : DiskState) (on : Stands says pieces start) → Kept true says (Through on.whole on.rest) disk → Stands says (Ended [] [] ∷ pieces) disk
+by_none says pieces start disk on kept = record {
+  whole = on.whole;
+  rest = on.rest;
+  lists = λ front is. subst (IsListOf (Ended [] [] ∷ pieces)) (append-nil (on.whole ++ front))
+      (next pieces (on.whole ++ front) (Ended [] []) [] (on.lists front is) (record { late = []; front = record { rest = []; is = refl }; is = refl }));
+  lawful = on.lawful;
+  kept = kept;
+}
 
-by_crash : (says : Says) (start : DiskState) (disk : DiskState) (acknowledged : History) (run : Run) (history : History) (safe : IsSafe says acknowledged start) → IsSoundDisk start → OpensOnce start run
-    → Through safe.whole safe.rest (recovered history) ⊎ TriedBy run (recovered history) → Kept true says (λ recovered_now. recovered_now ≡ recovered history) disk → IsSafe says acknowledged disk
-by_crash says start disk acknowledged run history safe sound opens (inl through) kept = unchanged says acknowledged start disk history safe through kept
-by_crash says start disk acknowledged Untouched history safe sound opens (inr tried) kept = absurd tried
-by_crash says start disk acknowledged Unread history safe sound opens (inr tried) kept = absurd tried
-by_crash says start disk acknowledged (Unopened found recorded rest) history safe sound opens (inr tried) kept =
-    cut says acknowledged start disk found (recorded ++ rest) history (grounded says acknowledged start found (recorded ++ rest) sound safe opens) tried kept
-by_crash says start disk acknowledged (Opened log) history safe sound opens (inr tried) kept =
-    cut says acknowledged start disk log.found (recorded_in (Opened log) ++ log.failed) history
-    (grounded says acknowledged start log.found (recorded_in (Opened log) ++ log.failed) sound safe opens)
-    (subst (λ (h : History). Through log.found h (recovered history)) (sym (append_assoc log.opening log.more log.failed)) tried) kept
+opened_assoc : (opening more failed : History) → (opening ++ more) ++ (failed ++ []) ≡ opening ++ (more ++ failed)
+opened_assoc opening more failed = ap (λ (h : History). (opening ++ more) ++ h) (append-nil failed) ∙ append_assoc opening more failed
+
+by_run : (says : Says) (start end : Clock) (pieces : List Piece) (run : Run) → Stands says pieces (now start) → IsSoundDisk (now start) → OpensOnce (now start) run
+    → ((kept rest : History) → Kept true says (Through kept rest) (now start) → KeepsAll says start end kept rest run) → Stands says (ended run ∷ pieces) (now end)
+by_run says start end pieces Untouched on sound opens keeps = by_none says pieces (now start) (now end) on (keeps on.whole on.rest on.kept).after
+by_run says start end pieces Unread on sound opens keeps = by_none says pieces (now start) (now end) on (keeps on.whole on.rest on.kept).after
+by_run says start end pieces (Unopened found recorded failed rest) on sound opens keeps =
+    by_end says pieces (now end) found recorded failed rest (grounded says pieces (now start) found (recorded ++ (failed ++ rest)) sound on opens) (keeps on.whole on.rest on.kept).after
+by_run says start end pieces (Opened log) on sound opens keeps =
+    by_end says pieces (now end) log.found (log.opening ++ log.more) log.failed []
+    (subst (Grounded says pieces log.found) (sym (opened_assoc log.opening log.more log.failed)) (grounded says pieces (now start) log.found (tried_in (Opened log)) sound on opens))
+    (keeps on.whole on.rest on.kept).after
+
+-- a run that was cut: of what it tried some stands
+by_cut : (says : Says) (pieces : List Piece) (disk : DiskState) (found tried history : History) → Grounded says pieces found tried → Through found tried (recovered history)
+    → Kept true says (λ found_now. found_now ≡ recovered history) disk → Stands says (Cut tried ∷ pieces) disk
+by_cut says pieces disk found tried history on through kept =
+    let split = survives found tried (recovered history) through in
+    let here : Grounded says pieces found (split.survived ++ split.later) = subst (Grounded says pieces found) split.rest_is on in
+    let one = moved says pieces found split.survived split.later here in
+    stands_on says (Cut tried ∷ pieces) disk (here.base ++ split.survived)
+    (next pieces here.base (Cut tried) split.survived here.of (record { rest = split.later; is = split.rest_is }))
+    one.lawful (kept_weaker true says (λ found_now. found_now ≡ recovered history) (λ found_now. found_now ≡ recovered (here.base ++ split.survived)) disk (λ found_now is. is ∙ split.is ∙ one.same) kept)
+
+-- a run that was cut before anything of it stood
+by_early : (says : Says) (pieces : List Piece) (start disk : DiskState) (tried history : History) (on : Stands says pieces start) → Through on.whole on.rest (recovered history)
+    → Kept true says (λ found_now. found_now ≡ recovered history) disk → Stands says (Cut tried ∷ pieces) disk
+by_early says pieces start disk tried history on through kept =
+    let one = survived_in says pieces start (recovered history) on through in
+    stands_on says (Cut tried ∷ pieces) disk one.list
+    (subst (IsListOf (Cut tried ∷ pieces)) (append-nil one.list) (next pieces one.list (Cut tried) [] one.of (record { rest = tried; is = refl })))
+    one.lawful (kept_weaker true says (λ found_now. found_now ≡ recovered history) (λ found_now. found_now ≡ recovered one.list) disk (λ found_now is. is ∙ one.is) kept)
+
+by_crash : (says : Says) (start disk : DiskState) (pieces : List Piece) (run : Run) (history : History) (on : Stands says pieces start) → IsSoundDisk start → OpensOnce start run
+    → Through on.whole on.rest (recovered history) ⊎ TriedBy run (recovered history) → Kept true says (λ found_now. found_now ≡ recovered history) disk → Stands says (cut run ∷ pieces) disk
+by_crash says start disk pieces run history on sound opens (inl through) kept = by_early says pieces start disk (tried_in run) history on through kept
+by_crash says start disk pieces Untouched history on sound opens (inr tried) kept = absurd tried
+by_crash says start disk pieces Unread history on sound opens (inr tried) kept = absurd tried
+by_crash says start disk pieces (Unopened found recorded failed rest) history on sound opens (inr tried) kept =
+    by_cut says pieces disk found (recorded ++ (failed ++ rest)) history (grounded says pieces start found (recorded ++ (failed ++ rest)) sound on opens) tried kept
+by_crash says start disk pieces (Opened log) history on sound opens (inr tried) kept =
+    by_cut says pieces disk log.found (tried_in (Opened log)) history (grounded says pieces start log.found (tried_in (Opened log)) sound on opens) tried kept
+
+-- the power went between two runs
+by_loss : (says : Says) (pieces : List Piece) (before disk : DiskState) (history : History) (on : Stands says pieces before) → Through on.whole on.rest (recovered history)
+    → Kept true says (λ found_now. found_now ≡ recovered history) disk → Stands says pieces disk
+by_loss says pieces before disk history on through kept =
+    let one = survived_in says pieces before (recovered history) on through in
+    stands_on says pieces disk one.list one.of one.lawful
+    (kept_weaker true says (λ found_now. found_now ≡ recovered history) (λ found_now. found_now ≡ recovered one.list) disk (λ found_now is. is ∙ one.is) kept)
+
+lives_stand : (says : Says) (disk : DiskState) (pieces : List Piece) → Lives says disk pieces → Stands says pieces disk
+lives_stand says disk pieces (fresh _ absent) = stands_on says [] disk [] none tt (empty_kept true says disk absent)
+lives_stand says disk pieces (ran start end before run lives is) = by_run says start end before run (lives_stand says (now start) before lives) is.sound is.opens is.keeps
+lives_stand says disk pieces (crashed start end before run t image _ lives is from to left begins) =
+    let on : Stands says before (now start) = lives_stand says (now start) before lives in
+    let found = (is.keeps on.whole on.rest on.kept).moments.each t from to image left in
+    by_crash says (now start) disk before run found.history on is.sound is.opens found.items
+    (begins_kept says (λ f. Through on.whole on.rest f ⊎ TriedBy run f) (end.at t) disk image left begins found)
+lives_stand says disk pieces (beside before _ _ added lives is) =
+    let on : Stands says pieces before = lives_stand says before pieces lives in
+    record {
+      whole = on.whole;
+      rest = on.rest;
+      lists = on.lists;
+      lawful = on.lawful;
+      kept = added_kept says (Through on.whole on.rest) before disk added is.sound is.state is.files is.no_part is.no_item on.kept;
+    }
+lives_stand says disk pieces (lost before _ image _ lives left begins) =
+    let on : Stands says pieces before = lives_stand says before pieces lives in
+    let found = on.kept image left in
+    by_loss says pieces before disk found.history on found.items (begins_kept says (Through on.whole on.rest) before disk image left begins found)
 
 pub any_runs : (says : Says) → AnyRuns says
-any_runs says disk acknowledged (fresh _ absent) = safe_of says [] [] [] disk none tt (empty_kept true says disk absent)
-any_runs says disk acknowledged (ran start end before run lives is) = by_run says start end before run (any_runs says (now start) before lives) is.sound is.opens is.keeps
-any_runs says disk acknowledged (crashed start end _ run t image _ lives is from to left begins) =
-    let safe : IsSafe says acknowledged (now start) = any_runs says (now start) acknowledged lives in
-    let image_is = (is.keeps safe.whole safe.rest safe.kept).moments.each t from to image left in
-    by_crash says (now start) disk acknowledged run image_is.history safe is.sound is.opens image_is.items
-    (begins_kept says (λ found. Through safe.whole safe.rest found ⊎ TriedBy run found) (end.at t) disk image left begins image_is)
-any_runs says disk acknowledged (lost before _ image _ lives left begins) =
-    let safe : IsSafe says acknowledged before = any_runs says before acknowledged lives in
-    let image_is = safe.kept image left in
-    unchanged says acknowledged before disk image_is.history safe image_is.items (begins_kept says (Through safe.whole safe.rest) before disk image left begins image_is)
+any_runs says disk pieces lives image left =
+    let on : Stands says pieces disk = lives_stand says disk pieces lives in
+    let found = on.kept image left in
+    let one = survived_in says pieces disk (recovered found.history) on found.items in
+    let items : items_of found.history ≡ items_of one.list = ap (λ (f : Found). f.items) one.is in
+    let sound : Sound says (items_of one.list) image = subst (λ (listed : List Item). Sound says listed image) items found.sound in
+    record {
+      recorded = found.history;
+      reads = found.recorded;
+      list = one.list;
+      of_runs = one.of;
+      lawful = one.lawful;
+      once = done_once one.list one.lawful;
+      items = items;
+      next_id = ap (λ (f : Found). f.next) one.is;
+      there = there says image one.list one.lawful sound;
+      never_less = never_less says image one.list one.lawful sound;
+    }

@@ -80,6 +80,7 @@ module _ {D O : Type 0} (clock : D → Clock) (says : Says) (start : Clock) (fou
         let held : HoldsOf true says clock ended ((found ++ opened.list) ++ more) = (goes_from true was).holds in
         subst (λ (h : History). Kept true says (Through h ended.failed) (now (clock ended.disk))) (append_assoc found opened.list more)
         (by_whole ended.broken true says ((found ++ opened.list) ++ more) ended.failed ended.gate (covers_of ended.lives) (now (clock ended.disk)) held.rests);
+    settles = is.done was;
   }
     where
       was : WasKept true says (now start)

@@ -1,5 +1,5 @@
 -- The statuses, both ways: what a status tells of a run, and when it comes.
-use Rattle.std.proofs.Common.{◌≡◌, ◌≢◌, ℕ, true, false, List, Option, Some, None, sym, ◌∙◌, ap}
+use Rattle.std.proofs.Common.{◌≡◌, ◌≢◌, ℕ, true, false, List, ◌++◌, Option, Some, None, sym, ◌∙◌, ap}
 use Rattle.std.proofs.lemmas.Bool.{false≢true}
 use Rattle.dm_types.specs.declared.item.Item.{Item}
 use Rattle.dm_types.specs.declared.item.Phase.{Phase}
@@ -7,46 +7,58 @@ use Rattle.dm_types.specs.declared.item.Phase.TheVariants as phases
 use Rattle.dm_types.specs.declared.kinds.DiskKind.{DiskKind}
 use Rattle.dm_types.specs.declared.reason.Reason.{Reason}
 use Rattle.dm_types.specs.declared.reason.Reason.TheVariants as reasons
-use Rattle.dm_item.specs.Lawful.{items_of}
+use Rattle.dm_item.specs.Lawful.{History, items_of}
 use Rattle.dm_item.specs.Listing.{item_in}
+use Rattle.dm_item.proofs.Basics.{none_some}
 use Rattle.dm_report.specs.Said.{Said, only}
 use Rattle.dm_report.specs.Texts.{item_line_of}
 use Rattle.dm_report.specs.declared.verdict.Verdict.{Verdict}
 use Rattle.dm_report.specs.declared.verdict.Verdict.TheVariants as verdicts
 use Rattle.dm_does.specs.declared.course.Course.{Course}
 use Rattle.dm_does.specs.declared.course.Course.TheVariants.{Ends, Brings}
-use Rattle.dm_does.specs.Answering.{Bringing, Came, Failed, all, broke, fell, stopped, unsaid}
+use Rattle.dm_does.specs.Answering.{Bringing, Came, Follows, WentOn, all, broke, fell, stopped, unsaid}
 use Rattle.dm_does.specs.Doing.{Doing}
 use Rattle.dm_does.specs.Laws.{IsOfList}
-use Rattle.dm_does.specs.Log.{Log, kept_of}
+use Rattle.dm_does.specs.Log.{Log, kept_of, opened_of}
 use Rattle.dm_does.specs.Saying.{said_by, said_in, said_interrupted, said_of}
-use Rattle.dm_does.specs.World.{World}
+use Rattle.dm_does.specs.World.{Failed, World}
+use Rattle.dm_does.proofs.Sweeping.{rose_wider}
 
-module _ (brings : Bringing) (tells : Type 0) (before after : World) (doing : Doing) (log : Log) (said : Said) where
+-- so of the failure by which a desk broke while an item was brought
+follows_failed : (brings : Bringing) (tells : Type 0) (at : ℕ) (before after : World) (course : Course) (history fetched failed : History) (kind : DiskKind) → Follows brings tells at before after course history fetched failed (Some kind)
+    → Failed before after kind
+follows_failed brings tells at before after (Ends verdict show) history fetched failed kind over = absurd (none_some (sym over.whole))
+follows_failed brings tells at before after (Brings id slices) history fetched failed kind brought =
+    rose_wider (before.disk_faults kind) (brought.from.disk_faults kind) (brought.to.disk_faults kind) (after.disk_faults kind) (brought.first.disk_later kind) brought.counted (brought.last.disk_later kind)
+
+pub went_failed : (brings : Bringing) (tells : Type 0) (at : ℕ) (before after : World) (doing : Doing) (log : Log) (kind : DiskKind) → WentOn brings tells at before after doing log (Some kind) → Failed before after kind
+went_failed brings tells at before after doing log kind went = follows_failed brings tells at before after doing.course (opened_of log ++ doing.entries) went.fetched log.failed kind went.follows
+
+module _ (brings : Bringing) (tells : Type 0) (at : ℕ) (before after : World) (doing : Doing) (log : Log) (said : Said) where
   verdict_is : (verdict : Verdict) → said ≡ only verdict → said.verdict ≡ verdict
   verdict_is verdict is = ap (λ (s : Said). s.verdict) is
 
   -- Only where: what is said, but for a failure of the disk and for want of memory, is that of the list at the end.
-  said_all : Came brings tells before after doing log said → said.verdict ≢ verdicts.NoMemory → ((kind : DiskKind) → said.verdict ≢ verdicts.DiskFailed kind) → said ≡ said_by (items_of (kept_of log)) doing.course
+  said_all : Came brings tells at before after doing log said → said.verdict ≢ verdicts.NoMemory → ((kind : DiskKind) → said.verdict ≢ verdicts.DiskFailed kind) → said ≡ said_by (items_of (kept_of log)) doing.course
   said_all (all whole none_failed went is) no_memory no_fault = is
   said_all (fell kind entry is_broken failed_is cut failed is) no_memory no_fault = absurd (no_fault kind (verdict_is (verdicts.DiskFailed kind) is))
-  said_all (broke kind is_broken went failed is) no_memory no_fault = absurd (no_fault kind (verdict_is (verdicts.DiskFailed kind) is))
+  said_all (broke kind is_broken went is) no_memory no_fault = absurd (no_fault kind (verdict_is (verdicts.DiskFailed kind) is))
   said_all (stopped whole none_failed cut is) no_memory no_fault = absurd (no_memory (verdict_is verdicts.NoMemory is))
   said_all (unsaid whole none_failed went is) no_memory no_fault = absurd (no_memory (verdict_is verdicts.NoMemory is))
 
   -- Always where: on a desk that isn't broken, but for want of memory.
-  said_whole : Came brings tells before after doing log said → log.broken ≡ false → said.verdict ≢ verdicts.NoMemory → said ≡ said_by (items_of (kept_of log)) doing.course
+  said_whole : Came brings tells at before after doing log said → log.broken ≡ false → said.verdict ≢ verdicts.NoMemory → said ≡ said_by (items_of (kept_of log)) doing.course
   said_whole (all whole none_failed went is) here no_memory = is
   said_whole (fell kind entry is_broken failed_is cut failed is) here no_memory = absurd (false≢true (sym here ∙ is_broken))
-  said_whole (broke kind is_broken went failed is) here no_memory = absurd (false≢true (sym here ∙ is_broken))
+  said_whole (broke kind is_broken went is) here no_memory = absurd (false≢true (sym here ∙ is_broken))
   said_whole (stopped whole none_failed cut is) here no_memory = absurd (no_memory (verdict_is verdicts.NoMemory is))
   said_whole (unsaid whole none_failed went is) here no_memory = absurd (no_memory (verdict_is verdicts.NoMemory is))
 
   -- A broken desk is always told as a failure of the disk, of a kind that was counted.
-  said_broken : Came brings tells before after doing log said → log.broken ≡ true → (kind : DiskKind) × Failed before after kind × (said ≡ only (verdicts.DiskFailed kind))
+  said_broken : Came brings tells at before after doing log said → log.broken ≡ true → (kind : DiskKind) × Failed before after kind × (said ≡ only (verdicts.DiskFailed kind))
   said_broken (all whole none_failed went is) here = absurd (false≢true (sym whole ∙ here))
   said_broken (fell kind entry is_broken failed_is cut failed is) here = (kind, failed, is)
-  said_broken (broke kind is_broken went failed is) here = (kind, failed, is)
+  said_broken (broke kind is_broken went is) here = (kind, went_failed brings tells at before after doing log kind went, is)
   said_broken (stopped whole none_failed cut is) here = absurd (false≢true (sym whole ∙ here))
   said_broken (unsaid whole none_failed went is) here = absurd (false≢true (sym whole ∙ here))
 
@@ -70,17 +82,17 @@ never_said items (Ends (verdicts.DiskFailed other) show) kind of_list is = absur
 never_said items (Ends verdict show) kind of_list is = cc
 
 -- So a failure of the disk is said only where a call failed.
-pub said_failed : (brings : Bringing) (tells : Type 0) (before after : World) (doing : Doing) (log : Log) (said : Said) (kind : DiskKind) → IsOfList doing.course → Came brings tells before after doing log said
+pub said_failed : (brings : Bringing) (tells : Type 0) (at : ℕ) (before after : World) (doing : Doing) (log : Log) (said : Said) (kind : DiskKind) → IsOfList doing.course → Came brings tells at before after doing log said
     → said.verdict ≡ verdicts.DiskFailed kind → (log.broken ≡ true) × ((other : DiskKind) × Failed before after other × (said ≡ only (verdicts.DiskFailed other)))
-said_failed brings tells before after doing log said kind of_list (all whole none_failed went is) told =
+said_failed brings tells at before after doing log said kind of_list (all whole none_failed went is) told =
     absurd (never_said (items_of (kept_of log)) doing.course kind of_list (sym (ap (λ (s : Said). s.verdict) is) ∙ told))
-said_failed brings tells before after doing log said kind of_list (fell other entry is_broken failed_is cut failed is) told = (is_broken, (other, failed, is))
-said_failed brings tells before after doing log said kind of_list (broke other is_broken went failed is) told = (is_broken, (other, failed, is))
-said_failed brings tells before after doing log said kind of_list (stopped whole none_failed cut is) told = absurd (memory_not (sym (ap (λ (s : Said). s.verdict) is) ∙ told))
+said_failed brings tells at before after doing log said kind of_list (fell other entry is_broken failed_is cut failed is) told = (is_broken, (other, failed, is))
+said_failed brings tells at before after doing log said kind of_list (broke other is_broken went is) told = (is_broken, (other, went_failed brings tells at before after doing log other went, is))
+said_failed brings tells at before after doing log said kind of_list (stopped whole none_failed cut is) told = absurd (memory_not (sym (ap (λ (s : Said). s.verdict) is) ∙ told))
   where
     memory_not : verdicts.NoMemory ≡ verdicts.DiskFailed kind → ⊥
     memory_not same = cc
-said_failed brings tells before after doing log said kind of_list (unsaid whole none_failed went is) told = absurd (memory_no (sym (ap (λ (s : Said). s.verdict) is) ∙ told))
+said_failed brings tells at before after doing log said kind of_list (unsaid whole none_failed went is) told = absurd (memory_no (sym (ap (λ (s : Said). s.verdict) is) ∙ told))
   where
     memory_no : verdicts.NoMemory ≡ verdicts.DiskFailed kind → ⊥
     memory_no same = cc

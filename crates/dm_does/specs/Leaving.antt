@@ -1,17 +1,17 @@
 -- What a run leaves on a disk that tells what it holds: what a crash at any moment leaves, the user's files, and what the next run begins with.
-use Rattle.std.specs.Prelude.{◌≡◌, ◌⊎◌, ℕ, true, false, List, ◌∷◌, ◌++◌, Some}
+use Rattle.std.specs.Prelude.{◌≡◌, ◌⊎◌, ℕ, true, false, List, [], ◌∷◌, ◌++◌, Some}
 use Rattle.dm_types.specs.Limits.{most_items}
 use Rattle.dm_types.specs.Name.{IsPart}
 use Rattle.dm_types.specs.declared.entry.Entry.TheVariants as entries
 use Rattle.dm_types.specs.declared.item.Item.{Item}
 use Rattle.dm_types.specs.declared.item.ItemId.{ItemId}
 use Rattle.dm_disk_model.specs.Beside.{Besides}
-use Rattle.dm_disk_model.specs.Disk.{DiskState, History as Clock, bytes_at, now}
+use Rattle.dm_disk_model.specs.Disk.{DiskState, Image, History as Clock, StandsNot, bytes_at, now}
 use Rattle.dm_disk_model.specs.Moments.{LeavesOnly, Throughout}
 use Rattle.dm_item.specs.Lawful.{History, items_of}
 use Rattle.dm_item.specs.Listing.{item_in}
 use Rattle.dm_journal.specs.AtRest.{journal_place}
-use Rattle.dm_journal.specs.Starting.{WasLeft}
+use Rattle.dm_journal.specs.Starting.{NoneOrBlank, WasLeft}
 use Rattle.dm_kept.specs.Files.{Says, says_all}
 use Rattle.dm_kept.specs.Kept.{Kept}
 use Rattle.dm_kept.specs.Recovery.{Found, Through}
@@ -20,16 +20,20 @@ use Rattle.dm_report.specs.declared.verdict.Verdict.{Verdict}
 use Rattle.dm_report.specs.declared.verdict.Verdict.TheVariants.{Damaged}
 use Rattle.dm_answers.specs.Reads.{IsGivenName}
 use Rattle.dm_answers.specs.Opening.{IsNear, IsUnchanged, LeavesSome, ReadsDamage}
-use Rattle.dm_does.specs.Log.{Run, Untouched, Unread, Unopened, Opened, found_in, kept_of, tried_in}
+use Rattle.dm_does.specs.Log.{Run, Untouched, Unread, Unopened, Opened, found_in, kept_of, tried_in, tried_of}
 
 -- Of each disk, whatever it held.
+
+-- what the start might have left; or, where nothing read as the journal, none or one of no entries
+abbrev pub LeavesUnread : DiskState → Image → Type 0
+LeavesUnread start image = WasLeft start image ⊎ (StandsNot start journal_place × NoneOrBlank image)
 
 -- what a crash at each moment leaves
 abbrev pub RunLeaves : Clock → Clock → Run → Type 0
 RunLeaves start end Untouched = end ≡ start
-RunLeaves start end Unread = LeavesOnly start end (WasLeft (now start))
-RunLeaves start end (Unopened found recorded rest) = Throughout start end (LeavesSome (now start) found (recorded ++ rest))
-RunLeaves start end (Opened log) = Throughout start end (LeavesSome (now start) log.found (tried_in (Opened log)))
+RunLeaves start end Unread = LeavesOnly start end (LeavesUnread (now start))
+RunLeaves start end (Unopened found recorded failed rest) = Throughout start end (LeavesSome (now start) found (recorded ++ (failed ++ rest)))
+RunLeaves start end (Opened log) = Throughout start end (LeavesSome (now start) log.found (tried_of log))
 
 -- The run tried to record that the item with this name has its whole content: from there on the name may be given to it.
 pub record IsFinished (found tried : History) (name : List ℕ) : Type 0 where
@@ -55,11 +59,11 @@ abbrev pub HoldsLog : Clock → Run → Type 0
 HoldsLog end (Opened log) = log.broken ≡ false → Records (bytes_at (now end) journal_place) (kept_of log)
 HoldsLog end _ = Unit {0}
 
--- What a crash at the end leaves: all that was recorded, and perhaps what was tried besides. Where no entry failed it is just that.
+-- What a crash at the end leaves: all that was recorded, and perhaps the entry that failed. Where none failed it is just that.
 abbrev pub EndsWith : DiskState → Run → Type 0
 EndsWith disk Untouched = Unit {0}
 EndsWith disk Unread = Unit {0}
-EndsWith disk (Unopened found recorded rest) = Kept false says_all (Through (found ++ recorded) rest) disk
+EndsWith disk (Unopened found recorded failed rest) = Kept false says_all (Through (found ++ recorded) failed) disk
 EndsWith disk (Opened log) = Kept false says_all (Through (kept_of log) log.failed) disk
 
 -- a journal that is told as damaged is damaged at that place, and nothing was written
@@ -81,17 +85,29 @@ pub record Leaves (start end : Clock) (far far' : ℕ) (verdict : Verdict) (run 
 abbrev pub TriedBy : Run → Found → Type 0
 TriedBy Untouched recovered = ⊥
 TriedBy Unread recovered = ⊥
-TriedBy (Unopened found recorded rest) recovered = Through found (recorded ++ rest) recovered
-TriedBy (Opened log) recovered = Through log.found (tried_in (Opened log)) recovered
+TriedBy (Unopened found recorded failed rest) recovered = Through found (recorded ++ (failed ++ rest)) recovered
+TriedBy (Opened log) recovered = Through log.found (tried_of log) recovered
 
--- What is kept at the end: as at the start, where no journal was found; else all that was recorded behind it, and perhaps what was tried besides.
+-- What is kept at the end: as at the start, where no journal was found; else all that was recorded behind it, and perhaps the entry that failed.
 abbrev pub EndsKept : Says → History → History → Run → DiskState → Type 0
 EndsKept says kept rest Untouched disk = Kept true says (Through kept rest) disk
 EndsKept says kept rest Unread disk = Kept true says (Through kept rest) disk
-EndsKept says kept rest (Unopened found recorded more) disk = Kept true says (Through (found ++ recorded) more) disk
+EndsKept says kept rest (Unopened found recorded failed more) disk = Kept true says (Through (found ++ recorded) failed) disk
 EndsKept says kept rest (Opened log) disk = Kept true says (Through (kept_of log) log.failed) disk
+
+-- no item is interrupted
+abbrev pub NoneBroke : History → Type 0
+NoneBroke [] = Unit {0}
+NoneBroke (entries.Broke id reason ∷ more) = ⊥
+NoneBroke (entry ∷ more) = NoneBroke more
+
+-- an opening completes each item that was being finished
+abbrev pub SettlesWell : Run → Type 0
+SettlesWell (Opened log) = NoneBroke log.opening
+SettlesWell _ = Unit {0}
 
 -- from a disk that keeps these entries, and perhaps some of the rest
 pub record KeepsAll (says : Says) (start end : Clock) (kept rest : History) (run : Run) : Type 0 where
   pub moments : Throughout start end (Kept true says (λ recovered. Through kept rest recovered ⊎ TriedBy run recovered))
   pub after : EndsKept says kept rest run (now end)
+  pub settles : SettlesWell run

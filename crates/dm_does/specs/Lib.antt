@@ -4,6 +4,7 @@ pub mod Saying
 pub mod Deciding
 pub mod Laws
 pub mod World
+pub mod Sweeping
 pub mod Printing
 pub mod Log
 pub mod Answering
@@ -11,3 +12,5 @@ pub mod Leaving
 pub mod Explaining
 pub mod Headline
 pub mod Session
+pub mod Serving
+pub mod Completing

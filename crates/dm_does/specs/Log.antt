@@ -39,10 +39,10 @@ tried_of log = log.opening ++ (log.more ++ log.failed)
 pub data Run : Type 0 where
   -- the words were refused, or memory was wanting to read them: the disk wasn't looked at
   Untouched : Run
-  -- no journal was read or started
+  -- no journal was read, and none was started but one of no entries
   Unread : Run
-  -- The journal held these entries, and then the opening was refused. Of what it tried behind them, some was recorded, and of the rest a crash may leave some.
-  Unopened : (found recorded rest : History) → Run
+  -- The journal held the found entries, and then the opening was refused. Of what it tried behind them these were recorded, this one failed, where one did, and the rest wasn't tried any more.
+  Unopened : (found recorded failed rest : History) → Run
   -- the list was opened
   Opened : (log : Log) → Run
 
@@ -50,25 +50,25 @@ pub data Run : Type 0 where
 abbrev pub found_in : Run → History
 found_in Untouched = []
 found_in Unread = []
-found_in (Unopened found recorded rest) = found
+found_in (Unopened found recorded failed rest) = found
 found_in (Opened log) = log.found
 
 abbrev pub tried_in : Run → History
 tried_in Untouched = []
 tried_in Unread = []
-tried_in (Unopened found recorded rest) = recorded ++ rest
+tried_in (Unopened found recorded failed rest) = recorded ++ (failed ++ rest)
 tried_in (Opened log) = tried_of log
 
 -- what it recorded
 abbrev pub recorded_in : Run → History
 recorded_in Untouched = []
 recorded_in Unread = []
-recorded_in (Unopened found recorded rest) = recorded
+recorded_in (Unopened found recorded failed rest) = recorded
 recorded_in (Opened log) = log.opening ++ log.more
 
--- and what of that which it tried may be left by a crash besides
-abbrev pub pending_in : Run → History
-pending_in Untouched = []
-pending_in Unread = []
-pending_in (Unopened found recorded rest) = rest
-pending_in (Opened log) = log.failed
+-- the entry whose append failed, where one did
+abbrev pub failed_in : Run → History
+failed_in Untouched = []
+failed_in Unread = []
+failed_in (Unopened found recorded failed rest) = failed
+failed_in (Opened log) = log.failed

@@ -1,6 +1,6 @@
-use Rattle.dm_kept.specs.Files.{by_test}
+use Rattle.dm_store.specs.Origin.{said_of}
 use Rattle.dm_does.proofs.Runs.{any_runs}
 use Rattle.dm_does.proofs.laws.any_runs.Goals as goal
 
 pub returns : goal.returns
-returns c test = any_runs (by_test test)
+returns g c = any_runs (said_of (g.O.Origin.says c.args.origin))

@@ -1,0 +1,87 @@
+-- A file that somebody adds, under a name that is no item's and no part's, leaves what is kept.
+use Rattle.std.proofs.Common.{◌≡◌, ◌≢◌, ◌⊎◌, inl, inr, ℕ, true, List, ◌∷◌, [], Option, Some, None, sym, ◌∙◌, ap, subst}
+use Rattle.dm_types.specs.Name.{IsPart, part_name}
+use Rattle.dm_types.specs.declared.item.Item.{Item}
+use Rattle.dm_disk_model.specs.Disk.{DiskState, Image, MayLeave}
+use Rattle.dm_disk_model.specs.File.{File}
+use Rattle.dm_disk_model.specs.Folder.{Created, EachPrefix, Folder, FolderLeaves, IsSoundFolder, after_change, contents_of, names_after, names_of}
+use Rattle.dm_disk_model.proofs.Images.{folder_as_read}
+use Rattle.dm_disk_model.proofs.PendingNames.{each_more, each_now, with_name_other}
+use Rattle.dm_item.specs.Lawful.{History, items_of}
+use Rattle.dm_item.specs.Listing.{item_in}
+use Rattle.dm_journal.specs.AtRest.{journal_name}
+use Rattle.dm_kept.specs.Files.{EachItem, Facts, FileKept, IsSmall, Says, claim_of, no_covers, stage_of}
+use Rattle.dm_kept.specs.Kept.{Kept, Recovers}
+use Rattle.dm_kept.specs.Recovery.{Found}
+use Rattle.dm_kept.specs.Spelled.{AllEntries, IsJournalOf, Records}
+use Rattle.dm_kept.proofs.FilesKept.{facts_sound}
+use Rattle.dm_kept.proofs.Ranges.{small_items}
+use Rattle.dm_part.specs.Keeping.{Claim, Filed, Held, IsAtMost, IsShort, LiesAt, Stage}
+use Rattle.dm_part.proofs.Frame.{lies_same, lies_under, short_changed, short_now}
+use Rattle.dm_does.specs.Headline.{IsAddedTo, IsNoItems}
+
+module _ (added : List ℕ) (old new : Folder) (is : IsAddedTo added old new) where
+  -- each file that has a name stays
+  stays : (count number : ℕ) (name : List ℕ) → names_after old count name ≡ Some number → new.file number ≡ old.file number
+  stays count number name under = is.others number (λ (same : number ≡ is.number). is.unused count name (under ∙ ap Some same))
+
+  stays_now : (number : ℕ) (name : List ℕ) → names_of old name ≡ Some number → new.file number ≡ old.file number
+  stays_now number name under = is.others number (λ (same : number ≡ is.number). each_now old (λ names. (n : List ℕ) → names n ≢ Some is.number) is.unused name (under ∙ ap Some same))
+
+  short_beside : (part : List ℕ) (total : Option ℕ) → part ≢ added → IsShort part total old → IsShort part total new
+  short_beside part total apart short =
+      let same = with_name_other (names_of old) added (Some is.number) part apart in
+      short_changed old new (Created added is.number) is.synced is.changes part total
+      (λ number under. subst (λ (f : File). IsAtMost total f.bytes) (sym (stays_now number part (sym same ∙ under))) (short_now old part total short number (sym same ∙ under)))
+      (λ count number under. stays count number part under) short
+
+  held_beside : (says : ℕ → ℕ → Type 0) (claim : Claim) → claim.part ≢ added → claim.name ≢ added → Held says old claim → Held says new claim
+  held_beside says claim not_part not_name held =
+      let lies = LiesAt claim.stage claim.part claim.name held.number in
+      let here = each_now old lies held.lies in
+      record {
+        number = held.number;
+        lies = each_more old new (Created added is.number) lies is.synced is.changes held.lies
+            (lies_same claim.stage claim.part claim.name held.number (names_of old) (after_change (names_of old) (Created added is.number))
+            (with_name_other (names_of old) added (Some is.number) claim.part not_part) (with_name_other (names_of old) added (Some is.number) claim.name not_name) here);
+        filed = subst (Filed says claim) (sym (same (lies_under claim.stage claim.part claim.name held.number (names_of old) here))) held.filed;
+        short = short_beside claim.part claim.total not_part held.short;
+      }
+    where
+      same : (names_of old claim.part ≡ Some held.number) ⊎ (names_of old claim.name ≡ Some held.number) → new.file held.number ≡ old.file held.number
+      same (inl under) = stays_now held.number claim.part under
+      same (inr under) = stays_now held.number claim.name under
+
+  file_beside : (says : ℕ → ℕ → Type 0) (stage : Option Stage) (claim : Claim) → claim.part ≢ added → claim.name ≢ added → FileKept says old stage claim → FileKept says new stage claim
+  file_beside says None claim not_part not_name kept = short_beside claim.part claim.total not_part kept
+  file_beside says (Some stage) claim not_part not_name kept = (held_beside says (record claim { stage = stage }) not_part not_name kept.0, kept.1)
+
+  facts_beside : (says : Says) (items : List Item) → (IsPart added → ⊥) → EachItem IsSmall items → EachItem (λ item. item.name ≢ Some added) items → Facts says no_covers items old → Facts says no_covers items new
+  facts_beside says items no_part small others facts id item there key address name key_is address_is name_is =
+      let smallness = small id item there in
+      file_beside (says address key) (stage_of item.phase) (claim_of name item.slices item)
+      (λ (same : part_name item.id.0 item.epoch.0 ≡ added). no_part (record { id = item.id.0; epoch = item.epoch.0; small = (smallness.id, smallness.epoch); is = sym same }))
+      (λ (same : name ≡ added). others id item there (name_is ∙ ap Some same))
+      (facts id item there key address name key_is address_is name_is)
+
+entries_of : (found : Option (List ℕ)) (history : History) → Records found history → AllEntries history
+entries_of None history records = subst AllEntries (sym records) tt
+entries_of (Some bytes) history records = records.entries
+
+pub added_kept : (says : Says) (P : Found → Type 0) (before after : DiskState) (added : List ℕ) → IsSoundFolder before.files → after.state ≡ before.state → IsAddedTo added before.files after.files → (IsPart added → ⊥) → IsNoItems added before
+    → Kept true says P before → Kept true says P after
+added_kept says P before after added sound same is no_part no_item kept image left =
+    let earlier : Image = record { state = image.state; files = contents_of before.files } in
+    let was : MayLeave before earlier = record { state = subst (λ (f : Folder). FolderLeaves f image.state) same left.state; files = folder_as_read before.files sound } in
+    let found = kept earlier was in
+    let facts : Facts says no_covers (items_of found.history) after.files =
+    facts_beside added before.files after.files is says (items_of found.history) no_part (small_items found.history found.taken.lawful (entries_of (image.state journal_name) found.history found.recorded))
+    (no_item earlier was found.history found.recorded) found.facts in
+    record {
+      history = found.history;
+      recorded = found.recorded;
+      taken = found.taken;
+      items = found.items;
+      facts = facts;
+      sound = facts_sound says (items_of found.history) after image left facts;
+    }
