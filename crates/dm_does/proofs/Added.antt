@@ -1,19 +1,18 @@
 -- A file that somebody adds, under a name that is no item's and no part's, leaves what is kept.
-use Rattle.std.proofs.Common.{◌≡◌, ◌≢◌, ◌⊎◌, inl, inr, ℕ, true, List, ◌∷◌, [], Option, Some, None, sym, ◌∙◌, ap, subst}
+use Rattle.std.proofs.Common.{◌≡◌, ◌≢◌, ◌⊎◌, inl, inr, ℕ, true, List, Option, Some, None, sym, ◌∙◌, ap, subst}
 use Rattle.dm_types.specs.Name.{IsPart, part_name}
 use Rattle.dm_types.specs.declared.item.Item.{Item}
 use Rattle.dm_disk_model.specs.Disk.{DiskState, Image, MayLeave}
 use Rattle.dm_disk_model.specs.File.{File}
-use Rattle.dm_disk_model.specs.Folder.{Created, EachPrefix, Folder, FolderLeaves, IsSoundFolder, after_change, contents_of, names_after, names_of}
+use Rattle.dm_disk_model.specs.Folder.{Created, Folder, FolderLeaves, IsSoundFolder, after_change, contents_of, names_after, names_of}
 use Rattle.dm_disk_model.proofs.Images.{folder_as_read}
 use Rattle.dm_disk_model.proofs.PendingNames.{each_more, each_now, with_name_other}
 use Rattle.dm_item.specs.Lawful.{History, items_of}
-use Rattle.dm_item.specs.Listing.{item_in}
 use Rattle.dm_journal.specs.AtRest.{journal_name}
 use Rattle.dm_kept.specs.Files.{EachItem, Facts, FileKept, IsSmall, Says, claim_of, no_covers, stage_of}
-use Rattle.dm_kept.specs.Kept.{Kept, Recovers}
+use Rattle.dm_kept.specs.Kept.{Kept}
 use Rattle.dm_kept.specs.Recovery.{Found}
-use Rattle.dm_kept.specs.Spelled.{AllEntries, IsJournalOf, Records}
+use Rattle.dm_kept.specs.Spelled.{AllEntries, Records}
 use Rattle.dm_kept.proofs.FilesKept.{facts_sound}
 use Rattle.dm_kept.proofs.Ranges.{small_items}
 use Rattle.dm_part.specs.Keeping.{Claim, Filed, Held, IsAtMost, IsShort, LiesAt, Stage}

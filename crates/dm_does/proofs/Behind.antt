@@ -15,21 +15,21 @@ use Rattle.dm_kept.proofs.Histories.{reverse_push}
 use Rattle.dm_does.specs.Log.{ArePlain}
 
 -- the next id and the items of a list
-abbrev found_of : Listing → Found
+abbrev pub found_of : Listing → Found
 found_of v = record { next = v.next; items = v.items }
 
-abbrev listed : History → Listing
+abbrev pub listed : History → Listing
 listed h = left_by 0 (reverse h)
 
 -- a Reopened tells the next id, and nothing is restored
-abbrev FitsTo : Entry → Listing → Type 0
+abbrev pub FitsTo : Entry → Listing → Type 0
 FitsTo (entries.Reopened next at) v = next ≡ v.next
 FitsTo (entries.Restored item) v = ⊥
 FitsTo e v = Unit {0}
 
-record SameList (v w : Listing) : Type 0 where
-  next : v.next ≡ w.next
-  items : v.items ≡ w.items
+pub record SameList (v w : Listing) : Type 0 where
+  pub next : v.next ≡ w.next
+  pub items : v.items ≡ w.items
 
 same_of : (v w : Listing) → found_of v ≡ found_of w → SameList v w
 same_of v w same = record { next = ap (λ (f : Found). f.next) same; items = ap (λ (f : Found). f.items) same }
@@ -42,7 +42,7 @@ cond_same : (b : Bool) (n m : ℕ) → n ≡ m → cond b n m ≡ m
 cond_same true n m same = same
 cond_same false n m same = refl
 
-applied_same : (e : Entry) (v w : Listing) → FitsTo e v → SameList v w → SameList (applied e v) (applied e w)
+pub applied_same : (e : Entry) (v w : Listing) → FitsTo e v → SameList v w → SameList (applied e v) (applied e w)
 applied_same (entries.Added id word address wish digest at) v w fits same = record { next = refl; items = ap (λ (i : List Item). i ++ added_item id word address wish digest at ∷ []) same.items }
 applied_same (entries.Reopened next at) v w fits same = record {
   next = cond_same v.is_first next v.next fits ∙ same.next ∙ sym (cond_same w.is_first next w.next (fits ∙ same.next));
@@ -51,7 +51,7 @@ applied_same (entries.Reopened next at) v w fits same = record {
 applied_same (entries.Restored item) v w fits same = absurd fits
 applied_same e v w fits same = record { next = same.next; items = ap (items_after e (target_of e)) same.items }
 
-meets_same : (e : Entry) (v w : Listing) → FitsTo e v → SameList v w → Meets v e → Meets w e
+pub meets_same : (e : Entry) (v w : Listing) → FitsTo e v → SameList v w → Meets v e → Meets w e
 meets_same (entries.Added id word address wish digest at) v w fits same meets = (meets.0 ∙ same.next, subst (IsFreeWord word) same.items meets.1)
 meets_same (entries.Reopened next at) v w fits same meets = inl (fits ∙ same.next)
 meets_same (entries.Restored item) v w fits same meets = absurd fits
@@ -62,13 +62,13 @@ record Behind (a b : History) : Type 0 where
   lawful : IsLawful b
   same : recovered a ≡ recovered b
 
-lawful_last : (h : History) (e : Entry) → IsLawful (h ++ e ∷ []) → Meets (listed h) e × IsLawful h
+pub lawful_last : (h : History) (e : Entry) → IsLawful (h ++ e ∷ []) → Meets (listed h) e × IsLawful h
 lawful_last h e lawful = subst IsLawfulBack (reverse_push h e) lawful
 
-lawful_more : (h : History) (e : Entry) → Meets (listed h) e → IsLawful h → IsLawful (h ++ e ∷ [])
+pub lawful_more : (h : History) (e : Entry) → Meets (listed h) e → IsLawful h → IsLawful (h ++ e ∷ [])
 lawful_more h e meets lawful = subst IsLawfulBack (sym (reverse_push h e)) (meets, lawful)
 
-recovered_more : (h : History) (e : Entry) → IsLawful h → Meets (listed h) e → recovered (h ++ e ∷ []) ≡ found_of (applied e (listed h))
+pub recovered_more : (h : History) (e : Entry) → IsLawful h → Meets (listed h) e → recovered (h ++ e ∷ []) ≡ found_of (applied e (listed h))
 recovered_more h e lawful meets = ap (λ (back : List Entry). found_of (left_by 0 back)) (reverse_push h e) ∙ ap found_of (left_by_step 0 e (reverse h) lawful meets)
 
 behind_one : (a b : History) (e : Entry) → Behind a b → IsLawful (a ++ e ∷ []) → FitsTo e (listed a) → Behind (a ++ e ∷ []) (b ++ e ∷ [])

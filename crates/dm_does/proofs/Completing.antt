@@ -1,17 +1,14 @@
 -- Where nothing fails a command does all, or memory was wanting.
-use Rattle.std.proofs.Common.{◌≡◌, ◌⊎◌, inl, inr, ℕ, true, List, Option, sym, ap, subst}
+use Rattle.std.proofs.Common.{inl, inr, ℕ, true, List, Option, ap, subst}
 use Rattle.dm_types.specs.Faults.{NoneRose}
 use Rattle.dm_types.specs.Limits.{most_items}
-use Rattle.dm_types.specs.declared.kinds.DiskKind.{DiskKind}
 use Rattle.dm_disk_model.specs.Disk.{DiskState, History as Clock, IsSoundDisk, now, reading}
 use Rattle.dm_disk_model.proofs.Images.{as_read}
 use Rattle.dm_kept.specs.Files.{Says}
 use Rattle.dm_kept.specs.Kept.{IsKeptNow}
 use Rattle.dm_kept.specs.Spelled.{Records}
 use Rattle.dm_kept.proofs.Damages.{never_both}
-use Rattle.dm_report.specs.Said.{Said, only}
-use Rattle.dm_report.specs.declared.verdict.Verdict.{Verdict}
-use Rattle.dm_report.specs.declared.verdict.Verdict.TheVariants as verdicts
+use Rattle.dm_report.specs.Said.{Said}
 use Rattle.dm_answers.specs.Opening.{ReadsDamage}
 use Rattle.dm_does.specs.declared.job.Job.{Job}
 use Rattle.dm_does.specs.Answering.{Answers, Bringing, Came, SaysFault, SaysUnread, all, broke, fell, given_by, stopped, unsaid}

@@ -1,5 +1,5 @@
 -- The clause of a run gives what the promise over all runs asks of it.
-use Rattle.std.proofs.Common.{ℕ, List, [], ◌∷◌, ◌++◌, sym, ◌∙◌, ap, subst, append_assoc}
+use Rattle.std.proofs.Common.{ℕ, List, [], ◌∷◌, ◌++◌, ◌∙◌, ap, append_assoc}
 use Rattle.dm_types.specs.declared.entry.Entry.{Entry}
 use Rattle.dm_types.specs.declared.entry.Entry.TheVariants as entries
 use Rattle.dm_types.specs.declared.item.Item.{Item}
@@ -12,7 +12,7 @@ use Rattle.dm_answers.specs.Settling.{AreSettlings, Settles, finishing}
 use Rattle.dm_does.specs.Answering.{Answers, Bringing}
 use Rattle.dm_does.specs.Explaining.{Explains, Telling}
 use Rattle.dm_does.specs.Headline.{IsBehind, IsRun, OpensOnce}
-use Rattle.dm_does.specs.Log.{ArePlain, Log, Run, Untouched, Unread, Unopened, Opened, recorded_in, tried_of}
+use Rattle.dm_does.specs.Log.{ArePlain, Log, Run, Untouched, Unread, Unopened, Opened, tried_of}
 use Rattle.dm_does.specs.Printing.{Outputs}
 use Rattle.dm_does.specs.World.{World}
 

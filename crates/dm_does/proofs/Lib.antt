@@ -11,6 +11,7 @@ pub mod Explained
 pub mod Statuses
 pub mod Sessions
 pub mod Waiting
+pub mod Counted
 pub mod Pausing
 pub mod Openings
 pub mod Touching

@@ -1,22 +1,22 @@
 -- Whatever runs and crashes led to a disk, it keeps what was acknowledged.
-use Rattle.std.proofs.Common.{◌≡◌, ◌⊎◌, inl, inr, ℕ, ◌≤◌, true, List, [], ◌∷◌, ◌++◌, refl, sym, ◌∙◌, ap, subst, append_assoc}
+use Rattle.std.proofs.Common.{◌≡◌, ◌⊎◌, inl, inr, true, List, [], ◌∷◌, ◌++◌, refl, sym, ◌∙◌, ap, subst, append_assoc}
 use Rattle.std.proofs.lemmas.List.{append-nil}
 use Rattle.dm_types.specs.declared.item.Item.{Item}
-use Rattle.dm_disk_model.specs.Disk.{DiskState, Image, History as Clock, IsSoundDisk, MayLeave, now, reading}
+use Rattle.dm_disk_model.specs.Disk.{DiskState, History as Clock, IsSoundDisk, now, reading}
 use Rattle.dm_disk_model.specs.Folder.{contents_of}
 use Rattle.dm_disk_model.proofs.Images.{as_read}
 use Rattle.dm_item.specs.Lawful.{History, IsLawful, items_of}
 use Rattle.dm_item.proofs.Lasting.{done_once}
 use Rattle.dm_journal.specs.AtRest.{journal_name}
 use Rattle.dm_kept.specs.Files.{Says, Sound}
-use Rattle.dm_kept.specs.Kept.{Kept, Recovers}
+use Rattle.dm_kept.specs.Kept.{Kept}
 use Rattle.dm_kept.specs.Recovery.{Found, Through, recovered}
 use Rattle.dm_kept.proofs.Histories.{records_one}
 use Rattle.dm_kept.proofs.Resting.{empty_kept, kept_weaker}
 use Rattle.dm_answers.specs.Opening.{reopening}
-use Rattle.dm_does.specs.Headline.{Adds, AnyRuns, Cut, Ended, IsBehind, IsFrontOf, IsListOf, IsSafeImage, OpensOnce, Piece, beside, crashed, cut, ended, fresh, lost, next, none, ran, Lives}
+use Rattle.dm_does.specs.Headline.{AnyRuns, Cut, Ended, IsBehind, IsFrontOf, IsListOf, OpensOnce, Piece, beside, crashed, cut, ended, fresh, lost, next, none, ran, Lives}
 use Rattle.dm_does.specs.Leaving.{KeepsAll, TriedBy}
-use Rattle.dm_does.specs.Log.{Run, Untouched, Unread, Unopened, Opened, failed_in, recorded_in, tried_in}
+use Rattle.dm_does.specs.Log.{Run, Untouched, Unread, Unopened, Opened, tried_in}
 use Rattle.dm_does.proofs.Added.{added_kept}
 use Rattle.dm_does.proofs.Begun.{begins_kept}
 use Rattle.dm_does.proofs.Behind.{FitAll, behind_all, fit_split, lawful_front, plain_fit, through_same}

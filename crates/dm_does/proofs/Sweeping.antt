@@ -1,9 +1,9 @@
 -- How a desk's sweep came out, from its clauses.
-use Rattle.std.proofs.Common.{◌≡◌, ℕ, ◌≤◌, true, false, List, Result, Ok, Err, sym, ◌∙◌, ap, subst, arith}
+use Rattle.std.proofs.Common.{◌≡◌, ℕ, ◌≤◌, false, Result, Ok, Err, sym, ◌∙◌, subst, arith}
 use Rattle.std.proofs.lemmas.Bool.{false≢true}
 use Rattle.dm_types.specs.Faults.{HasCause, NoneFell, Rose}
 use Rattle.dm_types.specs.declared.kinds.DiskKind.{DiskKind}
-use Rattle.dm_disk_model.specs.Disk.{DiskState, History as Clock, StandsNot, now}
+use Rattle.dm_disk_model.specs.Disk.{History as Clock, StandsNot, now}
 use Rattle.dm_item.specs.Listing.{Listing}
 use Rattle.dm_part.specs.Laws.{files_place}
 use Rattle.dm_store.specs.View.{View}
@@ -12,7 +12,7 @@ use Rattle.dm_answers.specs.Sweep.{IsLeftover, SweepAnswers}
 use Rattle.dm_answers.specs.declared.fault.DeskFault.{DeskFault}
 use Rattle.dm_answers.specs.declared.fault.DeskFault.TheVariants as faults
 use Rattle.dm_does.specs.Sweeping.{Sweeps, hindered, swept, wanting}
-use Rattle.dm_does.specs.World.{Failed, World}
+use Rattle.dm_does.specs.World.{World}
 
 -- a count that rose meanwhile rose
 pub rose_wider : (a b c d : ℕ) → a ≤ b → Rose b c → c ≤ d → Rose a d

@@ -1,6 +1,6 @@
 -- In a sound image a complete item's name holds the whole content, and no name less.
-use Rattle.std.proofs.Common.{◌≡◌, ◌⊎◌, inl, inr, ℕ, Bool, true, false, List, [], length, reverse, Option, Some, None, refl, sym, ◌∙◌, ap, subst}
-use Rattle.std.specs.Prelude.{◌||◌, IfSome, IsSome, IsTrue, is_some, slice_get, slice_index}
+use Rattle.std.proofs.Common.{◌≡◌, ◌⊎◌, inl, inr, ℕ, Bool, true, false, List, reverse, Option, Some, None, refl, sym, ◌∙◌, ap, subst}
+use Rattle.std.specs.Prelude.{◌||◌, IfSome, IsTrue, is_some}
 use Rattle.std.proofs.lemmas.Bool.{false≢true}
 use Rattle.std.proofs.lemmas.Option.{get_or_from_slice_get, slice_get_within}
 use Rattle.sha2.specs.Sha256.{sha256}
@@ -8,7 +8,6 @@ use Rattle.dm_types.specs.declared.item.Item.{Item}
 use Rattle.dm_types.specs.declared.item.Key.{Key}
 use Rattle.dm_types.specs.declared.item.Phase.{Phase}
 use Rattle.dm_types.specs.declared.item.Phase.TheVariants as phases
-use Rattle.dm_types.specs.declared.slices.Slice.{Slice}
 use Rattle.dm_disk_model.specs.Disk.{Image}
 use Rattle.dm_item.specs.History.{first_some}
 use Rattle.dm_item.specs.Lawful.{History, IsLawful, items_of, left_by}
@@ -17,7 +16,7 @@ use Rattle.dm_item.specs.Restored.{IsDigestOf, IsSound}
 use Rattle.dm_item.specs.Row.{is_cancelled, is_complete, is_finishing}
 use Rattle.dm_item.proofs.Shorts.{sound_in}
 use Rattle.dm_kept.specs.Files.{EachItem, FileSound, Says, Sound, claim_of, stage_of}
-use Rattle.dm_part.specs.Keeping.{FoundAt, Going, IsContent, IsSaid, Moving, Published, SoundOf, Stage}
+use Rattle.dm_part.specs.Keeping.{FoundAt, Going, IsContent, IsSaid, Moving, Published, Stage}
 use Rattle.dm_does.specs.Headline.{HoldsWhole, IsThere, NothingOrWhole}
 
 sound_of : (list : History) (id : ℕ) (item : Item) → IsLawful list → item_in id (items_of list) ≡ Some item → IsSound item

@@ -10,7 +10,6 @@ use Rattle.dm_types.specs.declared.kinds.DiskKind.{DiskKind}
 use Rattle.dm_types.specs.declared.kinds.DiskKind.TheVariants as kinds
 use Rattle.dm_types.specs.declared.reason.Reason.{Reason}
 use Rattle.dm_types.specs.declared.reason.Reason.TheVariants as reasons
-use Rattle.dm_edge.specs.declared.fault.NetFault.{NetFault}
 use Rattle.dm_edge.specs.declared.fault.NetFault.TheVariants as nets
 use Rattle.dm_item.specs.Lawful.{History, IsLawful, items_of, left_by}
 use Rattle.dm_kept.specs.Room.{IsTaken}
@@ -32,8 +31,8 @@ use Rattle.dm_does.specs.World.{Failed, IsLater, NetFailed, NoneClosed, World}
 abbrev pub Bringing : Type 1
 Bringing = World → World → ItemId → ℕ → History → History → History → Option DiskKind → Type 0
 
--- An interruption by a kind of fault is told only where one of this kind was counted. The other reasons come by what was read, or by what the user did, and are the driver's words;
--- so are `FileFailed`, which a taken name has too, and `NetworkFailed`, which a head that ends early has.
+-- An interruption by a kind of fault is told only where one of this kind was counted, and no attempt is interrupted by the user or by a crash. The other reasons come by what was read, and
+-- are the driver's words; so are `FileFailed`, which a taken name has too, and `NetworkFailed`, which a head that ends early has.
 abbrev pub IsCounted : World → World → Reason → Type 0
 IsCounted before after reasons.FileAccessDenied = Failed before after kinds.Denied
 IsCounted before after reasons.FileNoSpace = Failed before after kinds.NoSpace
@@ -41,6 +40,9 @@ IsCounted before after reasons.FileNameTooLong = Failed before after kinds.NameT
 IsCounted before after reasons.NetworkTimeout = NetFailed before after nets.Timeout
 IsCounted before after reasons.NetworkDisconnected = NetFailed before after nets.NoRoute
 IsCounted before after reasons.NetworkServerDown = NetFailed before after nets.Refused
+IsCounted before after reasons.UserCanceled = ⊥
+IsCounted before after reasons.UserShutdown = ⊥
+IsCounted before after reasons.Crash = ⊥
 IsCounted before after _ = Unit {0}
 
 -- an entry that attempts on the item record, for this moment where it has one; an interruption only where it was counted

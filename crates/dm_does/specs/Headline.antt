@@ -1,5 +1,5 @@
 -- The promise over any list of runs and crashes: what was acknowledged is never lost, and under a finished item's name stands the whole content.
-use Rattle.std.specs.Prelude.{◌≡◌, ◌≢◌, ◌⊎◌, ◌≤◌, ℕ, false, true, List, [], ◌∷◌, ◌++◌, length, slice_get, Option, Some, None, IfSome, IsTrue}
+use Rattle.std.specs.Prelude.{◌≡◌, ◌≢◌, ◌⊎◌, ◌≤◌, ℕ, false, true, List, [], ◌∷◌, ◌++◌, length, slice_get, Some, None, IfSome, IsTrue}
 use Rattle.sha2.specs.Sha256.{sha256}
 use Rattle.dm_types.specs.Name.{IsPart}
 use Rattle.dm_types.specs.declared.item.Item.{Item}
@@ -17,7 +17,7 @@ use Rattle.dm_kept.specs.Spelled.{Records}
 use Rattle.dm_part.specs.Keeping.{Begins}
 use Rattle.dm_answers.specs.Opening.{reopening}
 use Rattle.dm_does.specs.Leaving.{KeepsAll}
-use Rattle.dm_does.specs.Log.{ArePlain, Run, Untouched, Unread, Unopened, Opened, failed_in, found_in, recorded_in, tried_in}
+use Rattle.dm_does.specs.Log.{ArePlain, Run, Untouched, Unread, Unopened, Opened, failed_in, recorded_in, tried_in}
 
 -- What the runs did to the list.
 

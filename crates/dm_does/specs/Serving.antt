@@ -1,5 +1,5 @@
 -- When the outside serves an item whole: each connection that was made for it leads on, or brings what was asked for, of one content.
-use Rattle.std.specs.Prelude.{◌≡◌, ◌≤◌, ℕ, ◌+◌, ◌^◌, List, ◌++◌, length, slice_index, slice_range, Option, Some, None, IfSome}
+use Rattle.std.specs.Prelude.{◌≡◌, ◌≤◌, ℕ, ◌+◌, ◌^◌, List, ◌++◌, length, slice_index, slice_range, Some, None, IfSome}
 use Rattle.std.specs.List.{AllByRecursion}
 use Rattle.sha2.specs.Sha256.{sha256}
 use Rattle.dm_types.specs.declared.address.Address.{Address}

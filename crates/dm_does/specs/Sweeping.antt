@@ -1,5 +1,5 @@
 -- The sweep at the end of a command: parts that no item needs are removed.
-use Rattle.std.specs.Prelude.{◌≡◌, ℕ, Bool, true, false, List}
+use Rattle.std.specs.Prelude.{ℕ, Bool, true, false, List}
 use Rattle.dm_types.specs.declared.kinds.DiskKind.{DiskKind}
 use Rattle.dm_disk_model.specs.Disk.{DiskState, StandsNot, now}
 use Rattle.dm_item.specs.Listing.{Listing}
