@@ -8,7 +8,7 @@ use std::alloc::Global;
 
 // The openings of a desk.
 impl<D: Disk, O: Origin> Desk<D, O> {
-    ghost use Rattle.std.specs.Prelude.{IfOk};
+    ghost use Rattle.std.specs.Prelude.{IfErr, IfOk};
     ghost use Rattle.dm_types.specs.Faults.{HasCause};
     ghost use Rattle.dm_types.specs.Limits.{IsLimits};
     ghost use Rattle.dm_disk_model.specs.Beside.{Besides};
@@ -18,6 +18,7 @@ impl<D: Disk, O: Origin> Desk<D, O> {
     ghost use Rattle.dm_answers.specs.Faults.{desk_kind, open_kind};
     ghost use Rattle.dm_answers.specs.Opening.{OpenAnswers, OpenKeeps, OpenLeaves, ReopenAnswers, disk_of};
     ghost use Rattle.dm_answers.specs.Reads.{IsSettledName};
+    ghost use Rattle.dm_open.specs.Refused.{OpenRefuses, ReopenRefuses};
 
     /// Opens the list of a disk: finds its journal or starts it, records that it was opened, settles each
     /// item that was being finished, and removes each part that none needs. `at` is the moment in
@@ -32,6 +33,7 @@ impl<D: Disk, O: Origin> Desk<D, O> {
         requires { IsLimits limits }
         ensures kept { IfOk result (IsDesk D.tells D.history) }
         ensures answers { OpenAnswers D.tells D.history D.far (said_of (O.says origin)) disk origin limits at result }
+        ensures refused { IfErr result (OpenRefuses D.tells D.history D.far (said_of (O.says origin)) disk limits.items at) }
         ensures moments { D.tells → Throughout (D.history disk) (D.history (disk_of result)) (OpenLeaves D.tells (D.history disk) (D.history (disk_of result)) at) }
         ensures keeps { D.tells → OpenKeeps D.tells (said_of (O.says origin)) (D.history disk) (D.history (disk_of result)) at }
         ensures beside { D.tells → Besides (IsSettledName D.history disk) (D.history disk) (D.history (disk_of result)) }
@@ -48,6 +50,7 @@ impl<D: Disk, O: Origin> Desk<D, O> {
     pub fn reopen(&mut self, at: u64) -> Result<(), DeskFault>
         ensures kept { IsDesk D.tells D.history self.new }
         ensures answers { ReopenAnswers D.tells D.history D.far (said_of (O.says self.old.origin)) at self.old self.new result }
+        ensures refused { IfErr result (ReopenRefuses D.tells D.history D.far (said_of (O.says self.old.origin)) at self.old self.new) }
         ensures moments { D.tells → Throughout (D.history self.old.disk) (D.history self.new.disk) (OpenLeaves D.tells (D.history self.old.disk) (D.history self.new.disk) at) }
         ensures keeps { D.tells → OpenKeeps D.tells (said_of (O.says self.old.origin)) (D.history self.old.disk) (D.history self.new.disk) at }
         ensures beside { D.tells → Besides (IsSettledName D.history self.old.disk) (D.history self.old.disk) (D.history self.new.disk) }

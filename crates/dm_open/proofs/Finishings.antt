@@ -1,5 +1,5 @@
 -- What is kept where an opening is finished.
-use Rattle.std.proofs.Common.{◌≡◌, inl, inr, ℕ, false, List, [], ◌++◌, Result, Ok, Err, refl, sym, ◌∙◌, ap, subst}
+use Rattle.std.proofs.Common.{◌≡◌, inl, inr, ℕ, false, List, [], ◌++◌, Result, Ok, Err, refl, sym, ◌∙◌, ap, subst, arith}
 use Rattle.std.proofs.lemmas.List.{append-nil}
 use Rattle.dm_disk_model.specs.Disk.{History as Clock}
 use Rattle.dm_item.specs.Lawful.{History}
@@ -34,6 +34,7 @@ module _ {D O : Type 0} (tells : Type 0) (clock : D → Clock) (old mid new : Vi
     failed = [];
     broken = false;
     becomes = becomes_then old mid new settled.recorded settled.becomes [] [] false becomes;
+    one = omega arith;
     left = [];
     settles = subst (λ (h : History). AreSettlings tells (clock old.disk) (clock new.disk) at (finishing old.items.items) h []) (sym (append-nil (settled.recorded ++ []))) settled_later;
   }
@@ -49,7 +50,7 @@ module _ {D O : Type 0} (tells : Type 0) (clock : D → Clock) (old mid new : Vi
 
 -- nothing was settled
 pub all_untried : {D O : Type 0} (tells : Type 0) (clock : D → Clock) (old new : View D O) (at : ℕ) → Becomes old new [] [] false → IsUnsettled tells clock old new at
-all_untried tells clock old new at becomes = record { recorded = []; failed = []; broken = false; becomes = becomes; left = finishing old.items.items; settles = refl }
+all_untried tells clock old new at becomes = record { recorded = []; failed = []; broken = false; becomes = becomes; one = omega arith; left = finishing old.items.items; settles = refl }
 
 -- leftovers are parts
 pub left_part : {D O : Type 0} (clock : D → Clock) (old : View D O) (items : Listing) (name : List ℕ) → IsLeftover items name → IsPartOrGiven clock old name

@@ -38,6 +38,7 @@ use Rattle.dm_find.specs.Reopening.{IsHere}
 use Rattle.dm_find.specs.declared.hindered.Hindered.{Hindered}
 use Rattle.dm_find.proofs.Founds.{was_left}
 use Rattle.dm_settle.specs.Settled.{IsPartOrGiven}
+use Rattle.dm_open.specs.Refused.{KeepsTried, ReadAndTried}
 use Rattle.dm_open.specs.Resuming.{EndsAs, Resumes}
 use Rattle.dm_open.proofs.Resumed.{rests_broken, settlings_earlier, stands_same}
 
@@ -234,6 +235,18 @@ module _ {D O : Type 0} (tells : Type 0) (clock : D → Clock) (says : O → Say
       near = near_tried;
     }
 
+    pub read_and_tried : (tells → LeavesOnly (clock start) (clock old.disk) (FindLeaves (now (clock start)))) → ReadAndTried tells clock far (says old.origin) start new.disk limit at found.found new.list new.failed resumes.rest
+    read_and_tried moments = record {
+      taken = found.taken;
+      lawful = resumes.tries.lawful;
+      one = resumes.tries.one;
+      left = resumes.left;
+      tried = is_tried all refl;
+      runs = λ told. open_runs told (moments told);
+      kept = λ told good was. rests_broken new.broken good (says old.origin) (found.found ++ new.list) new.failed new.gate (covers_of new.lives) (now (clock new.disk)) (holds_new told good was).rests;
+      near = near_tried;
+    }
+
     pub is_opened : result ≡ Ok tt → new.limits.items ≡ limit → (tells → LeavesOnly (clock start) (clock old.disk) (FindLeaves (now (clock start)))) → IsOpened tells clock far (says old.origin) start at new
     is_opened ok same moments =
         let ends = subst (EndsAs tells clock says found.found old new resumes.settled resumes.rest resumes.left) ok resumes.ends in
@@ -278,6 +291,14 @@ module _ {D O : Type 0} (tells : Type 0) (clock : D → Clock) (says : O → Say
     holds = subst (λ (o : O). tells → (good : Bool) → WasKept good (says o) (now (clock first.disk)) → HoldsOf good (says o) clock new (found.found ++ new.list)) origin
         (holds_new tells clock says first.disk at first.limits.items old new found files few sound (Err fault) resumes);
     near = λ told. near_some tells clock says first.disk at first.limits.items old new found files few sound (Err fault) resumes far bare far_same near;
+  }
+
+  pub keeps_tried : (fault : Hindered) → Resumes tells clock says at found.found old new (Err fault) → (tells → LeavesOnly (clock first.disk) (clock old.disk) (FindLeaves (now (clock first.disk)))) → KeepsTried tells clock far (says first.origin) at first new
+  keeps_tried fault resumes moments = record {
+    found = found.found;
+    rest = resumes.rest;
+    is = subst (λ (o : O). ReadAndTried tells clock far (says o) first.disk new.disk first.limits.items at found.found new.list new.failed resumes.rest) origin
+        (read_and_tried tells clock says first.disk at first.limits.items old new found files few sound (Err fault) resumes far bare far_same near moments);
   }
 
 -- the name that an item gets, in what reads as the journal

@@ -1,5 +1,5 @@
 -- What opening the list of a store keeps.
-use Rattle.std.proofs.Common.{◌≡◌, ◌⊎◌, inl, inr, ℕ, ◌+◌, ◌≤◌, Bool, true, false, List, [], ◌∷◌, ◌++◌, length, drop, Option, Some, None, Result, Ok, Err, refl, sym, ◌∙◌, ap, subst, arith}
+use Rattle.std.proofs.Common.{◌≡◌, ◌⊎◌, inl, inr, ℕ, ◌+◌, ◌≤◌, Bool, true, false, List, [], ◌∷◌, ◌++◌, length, drop, Option, Some, None, Result, Ok, Err, refl, sym, ◌∙◌, ap, subst, arith, length-append}
 use Rattle.std.specs.Prelude.{is_some}
 use Rattle.std.specs.Option.{option_map}
 use Rattle.std.proofs.lemmas.Bool.{false≢true}
@@ -15,7 +15,7 @@ use Rattle.dm_disk_model.specs.Folder.{names_of}
 use Rattle.dm_disk_model.specs.Moments.{Throughout}
 use Rattle.dm_disk_model.proofs.Reaching.{joined, weaker}
 use Rattle.dm_item.specs.Fields.{stopped}
-use Rattle.dm_item.specs.Lawful.{History, IsOf, items_of}
+use Rattle.dm_item.specs.Lawful.{History, IsLawful, IsOf, items_of}
 use Rattle.dm_item.specs.Listing.{Listing, applied, item_in}
 use Rattle.dm_item.specs.Row.{stopped_item}
 use Rattle.dm_item.proofs.Histories.{keeps_step}
@@ -25,7 +25,7 @@ use Rattle.dm_kept.specs.Recovery.{Through}
 use Rattle.dm_kept.proofs.Entered.{items_are}
 use Rattle.dm_kept.proofs.Lists.{in_stopped, some_is}
 use Rattle.dm_kept.proofs.Resting as resting
-use Rattle.dm_store.specs.Becomes.{Becomes, lives_of, run_of}
+use Rattle.dm_store.specs.Becomes.{Becomes, MayTry, lives_of, run_of}
 use Rattle.dm_store.specs.Keeps.{Goes, HoldsOf, IsDesk, Keeps, RestsBy, StaysNear, added}
 use Rattle.dm_store.specs.Lives.{covers_of, lives_after, part_place}
 use Rattle.dm_store.specs.View.{View, spelled}
@@ -124,6 +124,8 @@ pub tries_broken : {D O : Type 0} (tells : Type 0) (clock : D → Clock) (says :
     → Tries tells clock says at found old (record new { broken = true }) settled rest left
 tries_broken tells clock says at found old new settled rest left tries = record {
   tried_is = tries.tried_is;
+  lawful = tries.lawful;
+  one = tries.one;
   settles = tries.settles;
   items = tries.items;
   gate_is = tries.gate_is;
@@ -132,6 +134,13 @@ tries_broken tells clock says at found old new settled rest left tries = record 
   limits = tries.limits;
   goes = λ told good rests. let went = tries.goes told good rests in (went.0, holds_broken good (says old.origin) clock new (found ++ new.list) went.1);
 }
+
+-- What a list takes, one entry behind another, is lawful behind each history that leaves it.
+may_lawful : (history : History) (items : Listing) (tried : History) → IsOf history items → MayTry items tried → IsLawful (history ++ tried)
+may_lawful history items [] is may = subst IsLawful (sym (append-nil history)) is.lawful
+may_lawful history items (entry ∷ more) is may =
+    subst IsLawful (append_assoc history (entry ∷ []) more)
+    (may_lawful (history ++ entry ∷ []) (applied entry items) more (keeps_step history entry items (applied entry items) is (record { room = may.0.room; meets = may.0.meets; value = refl })) may.1)
 
 -- From a list that was begun.
 module _ {D O : Type 0} (tells : Type 0) (clock : D → Clock) (says : O → Says) (old mid : View D O) (at : ℕ) (goes : BeginGoes tells clock says old mid (reopened_by old.items at)) (found : History) (is_of : IsOf found old.items) where
@@ -149,6 +158,8 @@ module _ {D O : Type 0} (tells : Type 0) (clock : D → Clock) (says : O → Say
       → Tries tells clock says at found old mid [] rest (finishing (items_of (found ++ reopening found at)))
   hindered_tries begins rest tried = record {
     tried_is = tried ∙ entry_is found old.items at is_of;
+    lawful = subst (λ (h : History). IsLawful (found ++ h)) (sym tried) (keeps_step found (reopened_by old.items at) old.items (applied (reopened_by old.items at) old.items) is_of (reopened_takes old.items at)).lawful;
+    one = let long = ap (length {A = Entry}) tried in omega (arith, long, length-append mid.list (mid.failed ++ rest), length-append mid.failed rest);
     settles = refl;
     items = subst (IsOf (found ++ mid.list)) (sym begins.items_are) (items_by mid.list mid.failed begins.tried);
     gate_is = begins.gate_is;
@@ -188,7 +199,7 @@ module _ {D O : Type 0} (tells : Type 0) (clock : D → Clock) (says : O → Say
   -- It was begun, and then these were settled.
   module _ (begun : BeginMakes old mid (reopened_by old.items at) (Ok tt)) (new : View D O) (broken : Bool) (recorded failed : History) (becomes : Becomes mid new recorded failed broken) (left : List Item)
       (settles : AreSettlings tells (clock mid.disk) (clock new.disk) at (finishing mid.items.items) (recorded ++ failed) left) (keeps : Keeps tells clock says mid new) (later : tells → (clock old.disk).moment ≤ (clock mid.disk).moment)
-      (names : tells → names_of (now (clock mid.disk)).files ≡ names_of (now (clock old.disk)).files) where
+      (names : tells → names_of (now (clock mid.disk)).files ≡ names_of (now (clock old.disk)).files) (one : length failed ≤ 1) where
     mid_items : IsOf (found ++ reopened_by old.items at ∷ []) mid.items
     mid_items =
         subst (IsOf (found ++ reopened_by old.items at ∷ [])) (sym (begun.0.items_are ∙ ap (λ (h : History). run_of h old.items) begun.1))
@@ -206,13 +217,24 @@ module _ {D O : Type 0} (tells : Type 0) (clock : D → Clock) (says : O → Say
     tried_here : reopened_by old.items at ∷ (recorded ++ failed) ≡ reopening found at ++ (recorded ++ failed)
     tried_here = ap (λ (h : History). h ++ (recorded ++ failed)) (entry_is found old.items at is_of)
 
+    items_new : IsOf (found ++ new.list) new.items
+    items_new =
+        subst (λ (h : History). IsOf h new.items) (append_assoc found (reopened_by old.items at ∷ []) recorded ∙ sym (ap (λ (h : History). found ++ h) new_list)) (becomes.lawful (found ++ reopened_by old.items at ∷ []) mid_items)
+
+    lawful_new : IsLawful (found ++ (new.list ++ (new.failed ++ [])))
+    lawful_new =
+        subst (λ (h : History). IsLawful (found ++ (new.list ++ h))) (sym (append-nil new.failed))
+        (subst IsLawful (append_assoc found new.list new.failed) (may_lawful (found ++ new.list) new.items new.failed items_new (subst (MayTry new.items) (sym becomes.failed_is) becomes.may)))
+
     begun_tries : Tries tells clock says at found old new (recorded ++ failed) [] left
     begun_tries = record {
       tried_is = ap (λ (h : History). new.list ++ h) (append-nil new.failed ∙ becomes.failed_is) ∙ ap (λ (h : History). h ++ failed) new_list ∙ tried_here;
+      lawful = lawful_new;
+      one = subst (λ (h : History). length h ≤ 1) (sym becomes.failed_is) one;
       settles = subst (λ (items : List Item). AreSettlings tells (clock old.disk) (clock new.disk) at (finishing items) (recorded ++ failed) left)
           (items_are (found ++ reopened_by old.items at ∷ []) mid.items mid_items ∙ ap (λ (h : History). items_of (found ++ h)) (entry_is found old.items at is_of))
           (settlings_earlier tells (clock old.disk) (clock mid.disk) (clock new.disk) later names at (finishing mid.items.items) (recorded ++ failed) left settles);
-      items = subst (λ (h : History). IsOf h new.items) (append_assoc found (reopened_by old.items at ∷ []) recorded ∙ sym (ap (λ (h : History). found ++ h) new_list)) (becomes.lawful (found ++ reopened_by old.items at ∷ []) mid_items);
+      items = items_new;
       gate_is = let a = becomes.gate_is in let b = begun.0.gate_is in let c = ap spelled new_list in let d = ap spelled begun.1 in omega (arith, a, b, c, d);
       none_live = becomes.lives_are ∙ ap (lives_of recorded mid.items) begun.0.lives ∙ lives_none tells (clock mid.disk) (clock new.disk) at (finishing mid.items.items) recorded failed left mid.items settles;
       origin = becomes.origin ∙ begun.0.origin;
@@ -252,13 +274,13 @@ module _ {D O : Type 0} (tells : Type 0) (clock : D → Clock) (says : O → Say
         settled = recorded ++ [];
         rest = [];
         left = [];
-        tries = begun_tries begun new false recorded [] makes.0.becomes [] settles keeps later names;
+        tries = begun_tries begun new false recorded [] makes.0.becomes [] settles keeps later names (omega arith);
         ends = record {
           whole = makes.0.becomes.broken_is;
           none_failed = makes.0.becomes.failed_is;
           none_rest = refl;
           none_left = refl;
-          never_breaks = begun_done begun new false recorded [] makes.0.becomes [] settles keeps later names never;
+          never_breaks = begun_done begun new false recorded [] makes.0.becomes [] settles keeps later names (omega arith) never;
           swept = makes.1;
         };
       }
@@ -271,7 +293,7 @@ module _ {D O : Type 0} (tells : Type 0) (clock : D → Clock) (says : O → Say
     rest = [];
     left = makes.left;
     tries = tries_broken tells clock says at found old new (makes.recorded ++ makes.failed) [] makes.left
-        (begun_tries begun new makes.broken makes.recorded makes.failed makes.becomes makes.left makes.settles keeps later names);
+        (begun_tries begun new makes.broken makes.recorded makes.failed makes.becomes makes.left makes.settles keeps later names makes.one);
     ends = refl;
   }
   stopped_resumes hindrances.NoMemory begun new makes keeps later names = record {
@@ -279,7 +301,7 @@ module _ {D O : Type 0} (tells : Type 0) (clock : D → Clock) (says : O → Say
     rest = [];
     left = makes.0.left;
     tries = tries_broken tells clock says at found old new (makes.0.recorded ++ makes.0.failed) [] makes.0.left
-        (begun_tries begun new makes.0.broken makes.0.recorded makes.0.failed makes.0.becomes makes.0.left makes.0.settles keeps later names);
+        (begun_tries begun new makes.0.broken makes.0.recorded makes.0.failed makes.0.becomes makes.0.left makes.0.settles keeps later names makes.0.one);
     ends = (refl, makes.1);
   }
 

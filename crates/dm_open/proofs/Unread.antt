@@ -1,13 +1,14 @@
 -- Where no journal was read.
-use Rattle.std.proofs.Common.{◌≡◌, ◌⊎◌, inl, inr, ℕ, Bool, true, false, List, [], ◌++◌, Option, None, refl, sym, subst}
+use Rattle.std.proofs.Common.{◌≡◌, ◌⊎◌, inl, inr, ℕ, Bool, true, false, List, [], ◌++◌, Option, Some, None, refl, sym, ◌∙◌, ap, subst}
+use Rattle.std.specs.Option.{option_map}
 use Rattle.dm_types.specs.declared.kinds.DiskKind.{DiskKind}
-use Rattle.dm_disk_model.specs.Disk.{DiskState, Image, History as Clock, IsSoundDisk, MayLeave, bytes_at, now, reading}
+use Rattle.dm_disk_model.specs.Disk.{DiskState, Image, History as Clock, IsSoundDisk, MayLeave, StandsNot, bytes_at, folder_in, now, reading}
 use Rattle.dm_disk_model.specs.Folder.{Folder}
-use Rattle.dm_disk_model.specs.Moments.{KeepsFiles, LeavesOnly}
+use Rattle.dm_disk_model.specs.Moments.{KeepsFiles, LeavesOnly, Throughout}
 use Rattle.dm_disk_model.proofs.Reaching.{at_end, at_start, both, weaker}
 use Rattle.dm_item.specs.Lawful.{History, items_of}
 use Rattle.dm_journal.specs.AtRest.{journal_place}
-use Rattle.dm_journal.specs.Starting.{WasLeft}
+use Rattle.dm_journal.specs.Starting.{NoneOrBlank, WasLeft}
 use Rattle.dm_journal.specs.declared.fault.JournalFault.TheVariants as journals
 use Rattle.dm_kept.specs.Files.{Says, says_all}
 use Rattle.dm_kept.specs.Kept.{Kept, Recovers}
@@ -22,6 +23,7 @@ use Rattle.dm_answers.specs.Opening.{IsRead, IsUntried, LeavesSome, OnlyBefore, 
 use Rattle.dm_answers.specs.Settling.{finishing}
 use Rattle.dm_answers.specs.declared.fault.OpenFault.TheVariants as opens
 use Rattle.dm_find.specs.Finding.{FindFails, FindLeaves, IsUnread}
+use Rattle.dm_open.specs.Refused.{KeepsUnread, NoneRead, StaysDamaged}
 use Rattle.dm_open.proofs.Opened.{RunsOr, blank_recovers, reads_none, through_none}
 use Rattle.dm_open.proofs.Resumed.{rests_broken}
 use Rattle.dm_find.proofs.Founds.{was_left}
@@ -72,25 +74,72 @@ module _ {D : Type 0} (tells : Type 0) (clock : D → Clock) (far : D → ℕ) (
   pub memory_fails : FindFails (clock start) (clock new) limit journals.NoMemory → OpenFails tells clock far says start limit at (opens.NoMemory new)
   memory_fails fails = unread fails
 
+-- From each kept disk it stays kept, at each moment.
+module _ (start end : Clock) (moments : LeavesOnly start end (FindLeaves (now start))) (files : KeepsFiles start end) (sound : IsSoundDisk (now start)) (good : Bool) (says : Says) (earlier more : History) (was : Kept good says (Through earlier more) (now start)) where
+  left_recovers : (disk : DiskState) → disk.files ≡ (now start).files → (image : Image) → FindLeaves (now start) image → Recovers good says (Through earlier more) disk.files image
+  left_recovers disk same image (inl left) = subst (λ (f : Folder). Recovers good says (Through earlier more) f image) (sym same) (was image left)
+  left_recovers disk same image (inr nothing) =
+      let read = was (reading (now start)) (as_read (now start) sound) in
+      let none : read.history ≡ [] = records_one (bytes_at (now start) journal_place) read.history [] read.recorded (reads_none (now start) nothing.0) in
+      blank_recovers good says (Through earlier more) (subst (λ (h : History). Through earlier more (recovered h)) none read.items) disk.files image nothing.1
+
+  pub stays_kept : Throughout start end (Kept good says (Through earlier more))
+  stays_kept =
+      weaker start end (λ disk. ((image : Image) → MayLeave disk image → FindLeaves (now start) image) × (disk.files ≡ (now start).files)) (Kept good says (Through earlier more))
+      (λ disk here image left. left_recovers disk here.1 image (here.0 image left)) (both start end (λ disk. (image : Image) → MayLeave disk image → FindLeaves (now start) image) (λ disk. disk.files ≡ (now start).files) moments files)
+
+-- A journal that reads stands at the start, so that none was started.
+stands_left : (start : DiskState) (bytes : List ℕ) → bytes_at start journal_place ≡ Some bytes → (image : Image) → FindLeaves start image → MayLeave start image
+stands_left start bytes reads image (inl left) = left
+stands_left start bytes reads image (inr nothing) = absurd (none_some bytes (sym (ap (option_map (λ number. ((folder_in journal_place.area start).file number).bytes)) nothing.0) ∙ reads))
+  where
+    none_some : (found : List ℕ) → None ≡ Some found → ⊥
+    none_some found same = absurd cc
+
+-- The same as a clause of a refused opening.
+module _ {D : Type 0} (tells : Type 0) (clock : D → Clock) (far : D → ℕ) (start new : D) (near : far new ≡ far start) (moments : tells → LeavesOnly (clock start) (clock new) (FindLeaves (now (clock start)))) where
+  pub none_read : (says : Says) → (tells → KeepsFiles (clock start) (clock new)) → (tells → IsSoundDisk (now (clock start))) → NoneRead tells clock far says start new
+  none_read says files sound = record {
+    moments = moments;
+    files = files;
+    kept = λ told good earlier more was. stays_kept (clock start) (clock new) (moments told) (files told) (sound told) good says earlier more was;
+    near = near;
+  }
+
+  pub stays_damaged : (limit place : ℕ) → (tells → FindFails (clock start) (clock new) limit (journals.Damaged place)) → tells → StaysDamaged clock far start new limit place
+  stays_damaged limit place fails told =
+      let failed = fails told in
+      record {
+        damaged = record { damage = failed.0; unchanged = failed.1; near = near };
+        moments = weaker (clock start) (clock new) (λ disk. (image : Image) → MayLeave disk image → FindLeaves (now (clock start)) image) (λ disk. (image : Image) → MayLeave disk image → MayLeave (now (clock start)) image)
+            (λ disk each image left. stands_left (now (clock start)) failed.0.bytes failed.0.reads image (each image left)) (moments told);
+      }
+
+-- For the journal and the user's files a crash leaves what one at the start might have, or none or one of no entries where nothing stood.
+pub none_read_leaves : {D : Type 0} (tells : Type 0) (clock : D → Clock) (far : D → ℕ) (says : Says) (start end : D) → NoneRead tells clock far says start end → tells
+    → LeavesOnly (clock start) (clock end) (λ image. WasLeft (now (clock start)) image ⊎ (StandsNot (now (clock start)) journal_place × NoneOrBlank image))
+none_read_leaves tells clock far says start end none told =
+    weaker (clock start) (clock end) (λ disk. (image : Image) → MayLeave disk image → FindLeaves (now (clock start)) image)
+    (λ disk. (image : Image) → MayLeave disk image → WasLeft (now (clock start)) image ⊎ (StandsNot (now (clock start)) journal_place × NoneOrBlank image)) (λ disk each image left. by image (each image left)) (none.moments told)
+  where
+    by : (image : Image) → FindLeaves (now (clock start)) image → WasLeft (now (clock start)) image ⊎ (StandsNot (now (clock start)) journal_place × NoneOrBlank image)
+    by image (inl left) = inl (was_left (now (clock start)) image left)
+    by image (inr nothing) = inr nothing
+
 -- A desk that stays as it was, broken.
 module _ {D O : Type 0} (tells : Type 0) (clock : D → Clock) (far : D → ℕ) (old new : View D O) (same : new ≡ record old { disk = new.disk; broken = true }) (moments : tells → LeavesOnly (clock old.disk) (clock new.disk) (FindLeaves (now (clock old.disk))))
     (files : tells → KeepsFiles (clock old.disk) (clock new.disk)) (sound : tells → IsSoundDisk (now (clock old.disk))) where
+  pub keeps_unread : (says : Says) → far new.disk ≡ far old.disk → KeepsUnread tells clock far says old new
+  keeps_unread says near = record { same = same; none = none_read tells clock far old.disk new.disk near moments says files sound }
+
   pub holds_unread : (says : Says) → tells → (good : Bool) (history : History) → HoldsOf good says clock old history → HoldsOf good says clock new history
-  holds_unread says told good history holds = subst (λ (v : View D O). HoldsOf good says clock v history) (sym same) (record { items = holds.items; rests = kept })
-    where
-      was : Kept good says (Through history old.failed) (now (clock old.disk))
-      was = rests_broken old.broken good says history old.failed old.gate (covers_of old.lives) (now (clock old.disk)) holds.rests
-
-      by : (image : Image) → FindLeaves (now (clock old.disk)) image → Recovers good says (Through history old.failed) (now (clock new.disk)).files image
-      by image (inl left) =
-          subst (λ (f : Folder). Recovers good says (Through history old.failed) f image) (sym (at_end (clock old.disk) (clock new.disk) (λ disk. disk.files ≡ (now (clock old.disk)).files) (files told))) (was image left)
-      by image (inr nothing) =
-          let read = was (reading (now (clock old.disk))) (as_read (now (clock old.disk)) (sound told)) in
-          let none : read.history ≡ [] = records_one (bytes_at (now (clock old.disk)) journal_place) read.history [] read.recorded (reads_none (now (clock old.disk)) nothing.0) in
-          blank_recovers good says (Through history old.failed) (subst (λ (h : History). Through history old.failed (recovered h)) none read.items) (now (clock new.disk)).files image nothing.1
-
-      kept : Kept good says (Through history old.failed) (now (clock new.disk))
-      kept image left = by image (at_end (clock old.disk) (clock new.disk) (λ disk. (image : Image) → MayLeave disk image → FindLeaves (now (clock old.disk)) image) (moments told) image left)
+  holds_unread says told good history holds =
+      subst (λ (v : View D O). HoldsOf good says clock v history) (sym same) (record {
+        items = holds.items;
+        rests = at_end (clock old.disk) (clock new.disk) (Kept good says (Through history old.failed))
+            (stays_kept (clock old.disk) (clock new.disk) (moments told) (files told) (sound told) good says history old.failed
+            (rests_broken old.broken good says history old.failed old.gate (covers_of old.lives) (now (clock old.disk)) holds.rests));
+      })
 
   pub desk_unread : IsDesk tells clock old → IsDesk tells clock new
   desk_unread is = subst (IsDesk tells clock) (sym same) (record {

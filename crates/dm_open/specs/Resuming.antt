@@ -1,9 +1,9 @@
 -- What opening the list of a store makes, from what was found on.
-use Rattle.std.specs.Prelude.{◌≡◌, ℕ, ◌+◌, Bool, true, false, List, [], ◌++◌, Result, Ok, Err}
+use Rattle.std.specs.Prelude.{◌≡◌, ℕ, ◌+◌, ◌≤◌, Bool, true, false, List, [], ◌++◌, length, Result, Ok, Err}
 use Rattle.dm_types.specs.declared.item.Item.{Item}
 use Rattle.dm_disk_model.specs.Disk.{History as Clock, now}
 use Rattle.dm_disk_model.specs.Moments.{Throughout}
-use Rattle.dm_item.specs.Lawful.{History, IsOf, items_of}
+use Rattle.dm_item.specs.Lawful.{History, IsLawful, IsOf, items_of}
 use Rattle.dm_kept.specs.Files.{Says, no_covers}
 use Rattle.dm_kept.specs.Kept.{Kept, Rests}
 use Rattle.dm_kept.specs.Recovery.{Through}
@@ -34,6 +34,8 @@ EndsAs tells clock says found old new settled rest left (Err hindrances.NoMemory
 -- Behind what was found one Reopened and the settlings were tried, up to the items that are left; those up to some place were recorded.
 pub record Tries {D O : Type 0} (tells : Type 0) (clock : D → Clock) (says : O → Says) (at : ℕ) (found : History) (old new : View D O) (settled rest : History) (left : List Item) : Type 0 where
   pub tried_is : new.list ++ (new.failed ++ rest) ≡ reopening found at ++ settled
+  pub lawful : IsLawful (found ++ (new.list ++ (new.failed ++ rest)))
+  pub one : length new.failed ≤ 1
   pub settles : AreSettlings tells (clock old.disk) (clock new.disk) at (finishing (items_of (found ++ reopening found at))) settled left
   pub items : IsOf (found ++ new.list) new.items
   pub gate_is : new.gate ≡ old.gate + spelled new.list

@@ -1,4 +1,4 @@
-ghost use Rattle.std.specs.Prelude.{◌≡◌, IfOk};
+ghost use Rattle.std.specs.Prelude.{◌≡◌, IfErr, IfOk};
 ghost use Rattle.dm_types.specs.Faults.{HasCause};
 ghost use Rattle.dm_types.specs.Limits.{IsLimits};
 ghost use Rattle.dm_disk_model.specs.Beside.{Besides};
@@ -8,6 +8,7 @@ ghost use Rattle.dm_store.specs.Store.{IsStore};
 ghost use Rattle.dm_answers.specs.Faults.{open_kind};
 ghost use Rattle.dm_answers.specs.Opening.{OpenAnswers, OpenKeeps, OpenLeaves, disk_of};
 ghost use Rattle.dm_answers.specs.Reads.{IsSettledName, seen};
+ghost use Rattle.dm_open.specs.Refused.{OpenRefuses};
 
 use crate::resuming::resume;
 use dm_answers::OpenFault;
@@ -31,6 +32,7 @@ pub fn open<D: Disk, O: Origin>(
     requires { IsLimits limits }
     ensures store { IfOk result (IsStore D.tells D.history) }
     ensures answers { OpenAnswers D.tells D.history D.far (said_of (O.says origin)) disk origin limits at (seen result) }
+    ensures refused { IfErr result (OpenRefuses D.tells D.history D.far (said_of (O.says origin)) disk limits.items at) }
     ensures moments { D.tells → Throughout (D.history disk) (D.history (disk_of (seen result))) (OpenLeaves D.tells (D.history disk) (D.history (disk_of (seen result))) at) }
     ensures keeps { D.tells → OpenKeeps D.tells (said_of (O.says origin)) (D.history disk) (D.history (disk_of (seen result))) at }
     ensures beside { D.tells → Besides (IsSettledName D.history disk) (D.history disk) (D.history (disk_of (seen result))) }

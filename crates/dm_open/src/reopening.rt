@@ -1,3 +1,4 @@
+ghost use Rattle.std.specs.Prelude.{IfErr};
 ghost use Rattle.dm_types.specs.Faults.{HasCause};
 ghost use Rattle.dm_disk_model.specs.Beside.{Besides};
 ghost use Rattle.dm_disk_model.specs.Moments.{Throughout};
@@ -6,6 +7,7 @@ ghost use Rattle.dm_store.specs.Store.{IsStore, view_of};
 ghost use Rattle.dm_answers.specs.Faults.{desk_kind};
 ghost use Rattle.dm_answers.specs.Opening.{OpenKeeps, OpenLeaves, ReopenAnswers};
 ghost use Rattle.dm_answers.specs.Reads.{IsSettledName};
+ghost use Rattle.dm_open.specs.Refused.{ReopenRefuses};
 
 use crate::resuming::resume;
 use dm_answers::DeskFault;
@@ -20,6 +22,7 @@ pub fn reopen<D: Disk, O: Origin>(store: &mut Store<D, O>, at: u64) -> Result<()
     requires store { IsStore D.tells D.history store.old }
     ensures store { IsStore D.tells D.history store.new }
     ensures answers { ReopenAnswers D.tells D.history D.far (said_of (O.says store.old.origin)) at (view_of store.old) (view_of store.new) result }
+    ensures refused { IfErr result (ReopenRefuses D.tells D.history D.far (said_of (O.says store.old.origin)) at (view_of store.old) (view_of store.new)) }
     ensures moments { D.tells → Throughout (D.history store.old.disk) (D.history store.new.disk) (OpenLeaves D.tells (D.history store.old.disk) (D.history store.new.disk) at) }
     ensures keeps { D.tells → OpenKeeps D.tells (said_of (O.says store.old.origin)) (D.history store.old.disk) (D.history store.new.disk) at }
     ensures beside { D.tells → Besides (IsSettledName D.history store.old.disk) (D.history store.old.disk) (D.history store.new.disk) }

@@ -356,6 +356,7 @@ module _ {D O : Type 0} (tells : Type 0) (clock : D → Clock) (says : O → Say
     failed = [];
     broken = false;
     becomes = becomes_then start present new so_far.done so_far.becomes [] [] false becomes;
+    one = omega arith;
     left = first.item ∷ first.rest;
     settles = subst (λ (h : History). AreSettlings tells (clock start.disk) (clock new.disk) at (finishing start.items.items) h (first.item ∷ first.rest)) (sym none_more)
         (untried_here tells clock says start present new names at listed so_far is_desk moving first (clock new.disk) on);
@@ -370,6 +371,7 @@ module _ {D O : Type 0} (tells : Type 0) (clock : D → Clock) (says : O → Say
         failed = stopped.stops.failed;
         broken = true;
         becomes = becomes_then start present new so_far.done so_far.becomes [] stopped.stops.failed true stopped.stops.becomes;
+        one = let none_long = ap (length {A = Entry}) none in omega (arith, none_long);
         left = first.item ∷ first.rest;
         settles = subst (λ (h : History). AreSettlings tells (clock start.disk) (clock new.disk) at (finishing start.items.items) ((so_far.done ++ []) ++ h) (first.item ∷ first.rest)) (sym none)
             (subst (λ (h : History). AreSettlings tells (clock start.disk) (clock new.disk) at (finishing start.items.items) h (first.item ∷ first.rest)) (sym none_more)
@@ -380,6 +382,7 @@ module _ {D O : Type 0} (tells : Type 0) (clock : D → Clock) (says : O → Say
         failed = stopped.stops.failed;
         broken = true;
         becomes = becomes_then start present new so_far.done so_far.becomes [] stopped.stops.failed true stopped.stops.becomes;
+        one = let one_long = ap (length {A = Entry}) one in omega (arith, one_long);
         left = first.rest;
         settles = subst (λ (h : History). AreSettlings tells (clock start.disk) (clock new.disk) at (finishing start.items.items) ((so_far.done ++ []) ++ h) first.rest) (sym one)
             (subst (λ (h : History). AreSettlings tells (clock start.disk) (clock new.disk) at (finishing start.items.items) (h ++ entry_of moving.id at stopped.judged ∷ []) first.rest) (sym (append-nil so_far.done))

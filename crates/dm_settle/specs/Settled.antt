@@ -1,5 +1,5 @@
 -- What settling makes of a desk, and what it keeps.
-use Rattle.std.specs.Prelude.{◌≡◌, ◌⊎◌, ℕ, Bool, true, false, List, [], ◌∷◌, ◌++◌, Some, Contains, Result, Ok, Err}
+use Rattle.std.specs.Prelude.{◌≡◌, ◌⊎◌, ℕ, ◌≤◌, Bool, true, false, List, [], ◌∷◌, ◌++◌, length, Some, Contains, Result, Ok, Err}
 use Rattle.dm_types.specs.Name.{IsPart}
 use Rattle.dm_types.specs.declared.entry.Entry.{Entry}
 use Rattle.dm_types.specs.declared.item.Item.{Item}
@@ -96,6 +96,7 @@ pub record IsUnsettled {D O : Type 0} (tells : Type 0) (clock : D → Clock) (ol
   pub failed : History
   pub broken : Bool
   pub becomes : Becomes old new recorded failed broken
+  pub one : length failed ≤ 1
   pub left : List Item
   pub settles : AreSettlings tells (clock old.disk) (clock new.disk) at (finishing old.items.items) (recorded ++ failed) left
 
