@@ -1,0 +1,7 @@
+mod Numerals
+mod Finding
+mod Inserted
+mod Ascii
+mod Targets
+mod Bodies
+mod Rows

@@ -1,0 +1,6 @@
+pub mod Numbers
+pub mod Routes
+pub mod Query
+pub mod Content
+pub mod Asked
+pub mod Held

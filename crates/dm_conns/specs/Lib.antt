@@ -1,0 +1,3 @@
+pub mod Conn
+pub mod Memory
+pub mod Chain
