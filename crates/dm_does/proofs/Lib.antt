@@ -5,6 +5,7 @@ pub mod Decisions
 pub mod Behind
 pub mod Begun
 pub mod Whole
+pub mod Pieces
 pub mod Added
 pub mod Runs
 pub mod Explained

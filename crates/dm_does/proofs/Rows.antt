@@ -312,3 +312,15 @@ row_remove_running = refl
 
 row_remove_finishing : says (jobs.Remove (numbered 1)) (given 2 (put phases.Finishing None (waiting 1 []) ∷ [])) ≡ only (verdicts.WrongState phases.Finishing)
 row_remove_finishing = refl
+
+-- `get` of a list that is full, and of an item that can't go on
+row_get_full : does (jobs.Get (order_for [] (codes "http://h/a")) 1) (record { list = record { limit = 1; next = 2; is_first = false; is_early = false; items = waiting 1 (codes "w1") ∷ [] }; at = 0 }) ≡ refuses (verdicts.ItemsFull 1)
+row_get_full = refl
+
+row_get_encoded : does (jobs.Get (order_for (codes "w1") (codes "http://h/a")) 1) (given 2 (put (phases.Interrupted reasons.ServerBadContent) (Some reasons.ServerBadContent) (waiting 1 (codes "w1")) ∷ []))
+    ≡ refuses (verdicts.WrongState (phases.Interrupted reasons.ServerBadContent))
+row_get_encoded = refl
+
+-- the second of two items with a word is found by it
+row_get_second : does (jobs.Get (order_for (codes "w2") (codes "http://h/a")) 1) (given 3 (brought (waiting 1 (codes "w1")) ∷ waiting 2 (codes "w2") ∷ [])) ≡ record { entries = []; course = Brings (numbered 2) 1 }
+row_get_second = refl
