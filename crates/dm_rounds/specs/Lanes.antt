@@ -1,0 +1,215 @@
+-- A lane, and a round of lanes.
+use Rattle.std.specs.Prelude.{◌≡◌, ◌⊎◌, ◌<◌, ◌≤◌, ◌==◌, ℕ, ◌+◌, ◌-◌, Bool, true, false, cond, nat_lt, List, [], ◌∷◌, ◌++◌, length, map, take, slice_get, Option, Some, None, Result, Ok, Err, IfSome}
+use Rattle.std.specs.List.{AllByRecursion, Contains}
+use Rattle.httparse.specs.Grammar.{ResponseHead}
+use Rattle.dm_types.specs.Faults.{Rose}
+use Rattle.dm_types.specs.declared.item.Key.{Key}
+use Rattle.dm_policy.specs.declared.cause.Cause.{Cause}
+use Rattle.dm_policy.specs.declared.cause.Cause.TheVariants as causes
+use Rattle.dm_edge.specs.declared.fault.NetFault.{NetFault}
+use Rattle.dm_edge.specs.declared.fault.WireFault.{WireFault}
+use Rattle.dm_edge.specs.declared.wanted.Wanted.{Wanted}
+use Rattle.dm_edge.specs.Begins.{most_content}
+use Rattle.dm_edge.specs.Fair.{key_of}
+use Rattle.dm_edge.specs.Fields.{fields_of}
+use Rattle.dm_edge.specs.Metadata.{IsStrongTag}
+use Rattle.dm_edge.specs.Reply.{IsWhole, ContentBroke}
+use Rattle.dm_edge.specs.Wire.{Purpose, Told, Closed, closed_of, stream_of}
+use Rattle.dm_reply.specs.declared.got.Got.{Got}
+use Rattle.dm_reply.specs.declared.got.Got.TheVariants.{Bytes, End}
+use Rattle.dm_reply.specs.Content.{Reader, HasRead, counted_of}
+use Rattle.dm_reply.specs.Faults.{cause_kind}
+use Rattle.dm_reply.specs.Steps.{least_of}
+use Rattle.dm_slice.specs.declared.plan.Part.{Part}
+use Rattle.dm_attempt.specs.declared.stop.Stop.{Stop}
+use Rattle.dm_attempt.specs.declared.stop.Stop.TheVariants as stops
+use Rattle.dm_attempt.specs.Asking.{Asking, IsAsked}
+use Rattle.dm_attempt.specs.Shares.{Share, total}
+use Rattle.dm_attempt.specs.Trace.{Carried}
+use Rattle.dm_rounds.specs.declared.lane.Lane.{Lane}
+use Rattle.dm_rounds.specs.declared.lane.Turn.{Turn}
+use Rattle.dm_rounds.specs.declared.lane.Turn.TheVariants.{More, Whole}
+
+-- the stream has content that begins with these bytes, or it broke behind them
+pub data Brought (wanted : Wanted) (stream bytes : List ℕ) : Type 0 where
+  read : (given rest more : List ℕ) (reader : Reader) (head : ResponseHead) → stream ≡ given ++ rest → HasRead wanted head given reader (bytes ++ more) → Brought wanted stream bytes
+  broke : (cause : Cause) → ContentBroke wanted stream bytes cause → Brought wanted stream bytes
+
+-- what was landed of a lane's part is a front of what its stream brought
+pub record IsLeft {W : Type 0} (tells : Type 0) (told : W → Told) (shares : List Share) (lane : Lane W) : Type 0 where
+  pub share : Share
+  pub share_is : slice_get shares lane.part.index ≡ Some share
+  pub part_is : share.part ≡ lane.part
+  pub brought : tells → Brought lane.reader.wanted (stream_of (told lane.wire)) share.bytes
+
+-- a content of no told length has at most this many bytes
+abbrev pub most_by : Option ℕ → ℕ
+most_by None = most_content
+most_by (Some n) = n
+
+-- how many bytes a reader gives at most
+abbrev pub most_given : Reader → ℕ
+most_given reader = least_of reader.size (most_by (counted_of reader.reading.body))
+
+-- A place of its part comes next, or the part is open and ends where no content goes on.
+abbrev pub GoesOn : {W : Type 0} → Lane W → Type 0
+GoesOn lane = (lane.at < lane.part.end) ⊎ ((lane.bounded ≡ false) × (lane.part.first + most_given lane.reader ≤ lane.part.end))
+
+-- a reader behind a head with content that stands under this key gave these bytes from what its wire gave
+pub record HasGiven (key : Key) (purpose : Purpose) (wanted : Wanted) (given : List ℕ) (reader : Reader) (bytes : List ℕ) : Type 0 where
+  pub head : ResponseHead
+  pub has : HasRead wanted head given reader bytes
+  pub tag : Option (List ℕ)
+  pub tag_is : IsStrongTag (fields_of head) tag
+  pub key_is : key ≡ key_of purpose tag
+
+-- what was landed of a lane's part is all that it gave, and more is to come
+pub record IsReady {W : Type 0} (tells : Type 0) (made_for : W → Purpose) (told : W → Told) (key : Key) (shares : List Share) (lane : Lane W) : Type 0 where
+  pub left : IsLeft tells told shares lane
+  pub at : lane.at ≡ lane.part.first + length left.share.bytes
+  pub within : lane.at ≤ lane.part.end
+  pub on : GoesOn lane
+  pub open_end : lane.bounded ≡ false → lane.part.first + most_given lane.reader ≤ lane.part.end
+  pub given : lane.reader.reading.given ≡ length left.share.bytes
+  pub unbroken : lane.reader.reading.broke ≡ None
+  pub reads : tells → HasGiven key (made_for lane.wire) lane.reader.wanted (told lane.wire).given lane.reader left.share.bytes
+
+-- all of the part was landed, or all that the stream has
+pub record IsFull {W : Type 0} (tells : Type 0) (told : W → Told) (shares : List Share) (lane : Lane W) : Type 0 where
+  pub left : IsLeft tells told shares lane
+  pub whole : (lane.part.first + length left.share.bytes ≡ lane.part.end) ⊎ (tells → IsWhole lane.reader.wanted (stream_of (told lane.wire)) left.share.bytes)
+
+-- what an answer does to a lane's place and reader
+abbrev pub PieceMoves : {W : Type 0} → Lane W → Lane W → Result Got Cause → ℕ → Type 0
+PieceMoves old new (Ok (Bytes n)) room =
+    (0 < n) × (n ≤ room) × (new.at ≡ old.at + n) × (new.at ≤ new.part.end) × (new.reader.reading.given ≡ old.reader.reading.given + n) × (new.reader.reading.broke ≡ None)
+PieceMoves old new (Ok End) room = new.at ≡ old.at
+PieceMoves old new (Err cause) room = new.at ≡ old.at
+
+-- what an answer says of the stream, where these bytes were given before
+abbrev pub PieceSays : {W : Type 0} → Key → (W → Purpose) → (W → Told) → Lane W → Lane W → Result Got Cause → List ℕ → List ℕ → Type 0
+PieceSays key made_for told old new (Ok (Bytes n)) buffer bytes = HasGiven key (made_for old.wire) old.reader.wanted (told new.wire).given new.reader (bytes ++ take n buffer)
+PieceSays key made_for told old new (Ok End) buffer bytes = IsWhole old.reader.wanted (stream_of (told new.wire)) bytes × HasGiven key (made_for old.wire) old.reader.wanted (told new.wire).given new.reader bytes
+PieceSays key made_for told old new (Err cause) buffer bytes = ContentBroke old.reader.wanted (stream_of (told new.wire)) bytes cause
+
+-- a lane is at its part's end just where its end is known and reached
+abbrev pub TurnIs : {W : Type 0} → Lane W → Turn → Type 0
+TurnIs lane More = (lane.at < lane.part.end) ⊎ (lane.bounded ≡ false)
+TurnIs lane Whole = lane.at ≡ lane.part.end
+
+abbrev pub TurnSays : {W : Type 0} → Type 0 → (W → Purpose) → (W → Told) → Key → List Share → Lane W → Turn → Type 0
+TurnSays tells made_for told key shares lane More = IsReady tells made_for told key shares lane
+TurnSays tells made_for told key shares lane Whole = IsFull tells told shares lane
+
+abbrev pub TurnMoves : {W : Type 0} → Lane W → Lane W → Result Turn Stop → Type 0
+TurnMoves old new (Ok More) = (old.at < new.at) × (new.at ≤ new.part.end)
+TurnMoves old new (Ok Whole) = Unit {0}
+TurnMoves old new (Err stop) = Unit {0}
+
+-- a lane's stream has this cause behind what was landed of its part
+pub record LaneBroke {W : Type 0} (told : W → Told) (shares : List Share) (lane : Lane W) (cause : Cause) : Type 0 where
+  pub share : Share
+  pub share_is : slice_get shares lane.part.index ≡ Some share
+  pub is : ContentBroke lane.reader.wanted (stream_of (told lane.wire)) share.bytes cause
+
+-- want of memory is no cause of the content
+abbrev pub stop_met : Cause → Stop
+stop_met causes.Memory = stops.NoMemory
+stop_met cause = stops.Broke cause
+
+-- why reading stopped, as the lane's stream shows it
+abbrev pub LaneStops : {W : Type 0} → (W → Told) → List Share → Lane W → Stop → Type 0
+LaneStops told shares lane (stops.Broke cause) = LaneBroke told shares lane cause
+LaneStops told shares lane stops.NoMemory = Unit {0}
+LaneStops told shares lane (stops.Fault fault) = Unit {0}
+LaneStops told shares lane (stops.Recorded reason) = Unit {0}
+
+-- one of the lanes stopped it
+pub record StopSays {W : Type 0} (told : W → Told) (shares : List Share) (lanes : List (Lane W)) (stop : Stop) : Type 0 where
+  pub lane : Lane W
+  pub among : Contains lanes lane
+  pub stops : LaneStops told shares lane stop
+
+-- a cause that is a fault of a wire shows in its count
+abbrev pub ShownOn : {W : Type 0} → (W → WireFault → ℕ) → Lane W → Stop → Type 0
+ShownOn counts lane (stops.Broke cause) = IfSome (cause_kind cause) (λ kind. 0 < counts lane.wire kind)
+ShownOn counts lane stops.NoMemory = Unit {0}
+ShownOn counts lane (stops.Fault fault) = Unit {0}
+ShownOn counts lane (stops.Recorded reason) = Unit {0}
+
+pub record SomeShows {W : Type 0} (counts : W → WireFault → ℕ) (lanes : List (Lane W)) (stop : Stop) : Type 0 where
+  pub lane : Lane W
+  pub among : Contains lanes lane
+  pub shown : ShownOn counts lane stop
+
+-- a connection asked for its part
+abbrev pub LaneAsks : {W : Type 0} → Type 0 → (W → Purpose) → (W → Told) → Asking → Lane W → Type 0
+LaneAsks tells made_for told asking lane = IsAsked tells asking lane.part lane.reader.wanted (made_for lane.wire) (told lane.wire).sent
+
+-- a closed connection asked for its part
+abbrev pub WasAsked : Type 0 → Asking → Carried → Type 0
+WasAsked net asking c = IsAsked net asking c.part c.wanted c.connection.purpose c.connection.sent
+
+-- its part was landed whole from it
+pub record IsRead (net : Type 0) (asking : Asking) (shares : List Share) (c : Carried) : Type 0 where
+  pub share : Share
+  pub share_is : slice_get shares c.part.index ≡ Some share
+  pub asked : WasAsked net asking c
+  pub brought : net → Brought c.wanted c.connection.stream share.bytes
+  pub whole : (share.part.first + length share.bytes ≡ share.part.end) ⊎ (net → IsWhole c.wanted c.connection.stream share.bytes)
+
+-- 1 where the lane's part has this number
+abbrev pub is_at : {W : Type 0} → ℕ → Lane W → ℕ
+is_at n lane = cond (lane.part.index == n) 1 0
+
+abbrev pub is_of : ℕ → Carried → ℕ
+is_of n c = cond (c.part.index == n) 1 0
+
+-- how many turns may come
+abbrev pub left_of : {W : Type 0} → List (Lane W) → ℕ
+left_of lanes = total (λ lane. 1 + (lane.part.end - lane.at)) lanes
+
+-- Each part has a lane, or a connection that is closed and brought it whole. Nothing else was closed.
+pub record InRound {W : Type 0} (net tells : Type 0) (made_for : W → Purpose) (told : W → Told) (asking : Asking) (start now : List Closed) (shares : List Share) (lanes : List (Lane W)) : Type 0 where
+  pub wires : List Carried
+  pub closed : net → now ≡ start ++ map (λ (c : Carried). c.connection) wires
+  pub each : AllByRecursion (IsRead net asking shares) wires
+  pub asks : AllByRecursion (LaneAsks tells made_for told asking) lanes
+  pub once : (n : ℕ) → n < length shares → total (is_of n) wires + total (is_at n) lanes ≡ 1
+
+-- the lanes' connections, in their order
+abbrev pub closed_lanes : {W : Type 0} → (W → Purpose) → (W → Told) → List (Lane W) → List Closed
+closed_lanes {W} made_for told lanes = map (λ (lane : Lane W). closed_of (made_for lane.wire) (told lane.wire)) lanes
+
+abbrev pub Closes : {W : Type 0} → (W → Purpose) → (W → Told) → List Closed → List Closed → List (Lane W) → Type 0
+Closes made_for told before after lanes = after ≡ before ++ closed_lanes made_for told lanes
+
+-- what was landed of this part came from one of these connections, and is all of it
+pub record IsBroughtBy (net : Type 0) (asking : Asking) (wires : List Carried) (n : ℕ) (share : Share) : Type 0 where
+  pub c : Carried
+  pub among : Contains wires c
+  pub number : c.part.index ≡ n
+  pub asked : WasAsked net asking c
+  pub brought : net → Brought c.wanted c.connection.stream share.bytes
+  pub whole : (share.part.first + length share.bytes ≡ share.part.end) ⊎ (net → IsWhole c.wanted c.connection.stream share.bytes)
+
+-- Each part was brought whole by one connection, and these are all that were closed.
+pub record IsWholeRound (net : Type 0) (asking : Asking) (start now : List Closed) (shares : List Share) : Type 0 where
+  pub wires : List Carried
+  pub closed : net → now ≡ start ++ map (λ (c : Carried). c.connection) wires
+  pub once : (n : ℕ) → n < length shares → total (is_of n) wires ≡ 1
+  pub each : (n : ℕ) (share : Share) → slice_get shares n ≡ Some share → IsBroughtBy net asking wires n share
+
+-- its part was landed from it as far as it was landed
+pub record IsCarried (net : Type 0) (asking : Asking) (shares : List Share) (c : Carried) : Type 0 where
+  pub share : Share
+  pub share_is : slice_get shares c.part.index ≡ Some share
+  pub asked : WasAsked net asking c
+  pub brought : net → Brought c.wanted c.connection.stream share.bytes
+
+-- Each part was brought so far by one connection, and these are all that were closed.
+pub record IsCutRound (net : Type 0) (asking : Asking) (start now : List Closed) (shares : List Share) : Type 0 where
+  pub wires : List Carried
+  pub closed : net → now ≡ start ++ map (λ (c : Carried). c.connection) wires
+  pub once : (n : ℕ) → n < length shares → total (is_of n) wires ≡ 1
+  pub each : AllByRecursion (IsCarried net asking shares) wires
