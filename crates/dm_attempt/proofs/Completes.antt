@@ -45,11 +45,12 @@ use Rattle.dm_answers.specs.declared.fault.DeskFault.{DeskFault}
 use Rattle.dm_answers.specs.declared.fault.DeskFault.TheVariants as faults
 use Rattle.dm_attempt.specs.declared.stop.Stop.{Stop}
 use Rattle.dm_attempt.specs.declared.stop.Stop.TheVariants as stops
-use Rattle.dm_attempt.specs.Ending.{RecordedBy, StopHolds, total_by}
+use Rattle.dm_attempt.specs.Ending.{RecordedBy, StopHolds}
 use Rattle.dm_attempt.specs.Finishes.{FinishLeaves, IsDone, finish_stop, finished_by}
 use Rattle.dm_attempt.specs.Goes.{CallGoes, DeskGoes}
-use Rattle.dm_attempt.specs.Live.{DeskFell, DeskOver, IsGivenBy, IsPlanned, IsSpared, IsTraced, LiveDesk, all_entries}
+use Rattle.dm_attempt.specs.Live.{DeskOver, IsGivenBy, IsPlanned, IsSpared, IsTraced, LiveDesk, all_entries}
 use Rattle.dm_attempt.specs.Scene.{Scene, begun_by, changed_all, cover_by, item_by, told_by}
+use Rattle.dm_attempt.specs.Shows.{DeskDone, DeskFell, DeskMet, NoCause, ShowsClose, total_by}
 use Rattle.dm_attempt.specs.Stops.{FaultLeaves, stop_by}
 use Rattle.dm_attempt.specs.Trace.{Broken, Close, Done, Trace, close_entries, entries_behind, so_far, told_entries, with_saves}
 use Rattle.dm_attempt.proofs.Goes.{call_more, goes_more, goes_then}
@@ -169,8 +170,9 @@ module _ {D O : Type 0} (tells : Type 0) (clock : D → Clock) (says : O → Say
       )
 
   -- the journal failed at one of these entries
-  fell_closing : (front : History) → Saved front → (behind more : History) (close : Close) → behind ++ more ≡ close_entries id scene.at close → Owned behind → Fell old new (front ++ behind) → DeskFell tells clock says far counts scene new trace
-  fell_closing front (saved saves is planned front_own) behind more close closes own fell =
+  fell_closing : (front : History) → Saved front → (behind more : History) (close : Close) → behind ++ more ≡ close_entries id scene.at close → Owned behind → Fell old new (front ++ behind)
+      → ShowsClose tells clock says far counts scene new trace NoCause close → DeskFell tells clock says far counts scene new trace NoCause
+  fell_closing front (saved saves is planned front_own) behind more close closes own fell shows =
       let after = with_saves trace saves in
       let owned : Owned fell.recorded = own_front id.0 fell.recorded (fell.entry ∷ fell.rest) (subst Owned fell.tries_are (own_both id.0 front behind front_own own)) in
       let parts : head ++ ((so_far id trace ++ (fell.recorded ++ fell.entry ∷ fell.rest)) ++ more) ≡ ((before ++ fell.recorded) ++ fell.entry ∷ []) ++ (fell.rest ++ more) = simp append_assoc in
@@ -183,6 +185,8 @@ module _ {D O : Type 0} (tells : Type 0) (clock : D → Clock) (says : O → Say
         lost_is = refl;
         rounds_are = refl;
         close = close;
+        seen = trace.saves;
+        shows = shows;
         recorded = before ++ fell.recorded;
         failed = fell.entry ∷ [];
         rest = fell.rest ++ more;
@@ -210,59 +214,113 @@ module _ {D O : Type 0} (tells : Type 0) (clock : D → Clock) (says : O → Say
     done_own : (digest : List ℕ) → Owned (finishing_entries found.item found.life digest at)
     done_own digest = subst Owned (sym (done_is digest)) (λ v. refl, (λ v. refl, tt))
 
-    fell_broke : (front : History) → Saved front → (behind : History) (cause : Cause) → behind ≡ entries.Broke found.item.id (reason_of_cause cause) ∷ [] → Fell old new (front ++ behind) → DeskFell tells clock says far counts scene new trace
-    fell_broke front front_saved behind cause is fell =
-        fell_closing front front_saved behind [] (Broken cause) (append-nil behind ∙ is ∙ broke_is cause) (subst Owned (sym is) (broke_own cause)) fell
+    abbrev Shows : Close → Type 0
+    Shows close = ShowsClose tells clock says far counts scene new trace NoCause close
 
-    fell_file : (front : History) → Saved front → (behind : History) → FileBroke (counts old.disk) (counts new.disk) found.item.id behind → Fell old new (front ++ behind) → DeskFell tells clock says far counts scene new trace
-    fell_file front front_saved behind file fell = fell_broke front front_saved behind (causes.File file.is.kind) (file.one ∙ ap (λ (e : Entry). e ∷ []) file.is.is) fell
+    abbrev Met : Cause → Type 0
+    Met cause = DeskMet tells clock says far counts scene pass trace cause
 
-    tail_fell : (behind : History) → FinishTail tells clock counts old.disk new.disk at found.item found.life behind → Fell old new (saving found.item found.life ++ behind) → DeskFell tells clock says far counts scene new trace
-    tail_fell behind (inl done) fell =
-        fell_closing (saving found.item found.life) (saves_of P found) behind [] (Done (total_by scene trace) done.digest) (append-nil behind ∙ done.is ∙ done_is done.digest) (subst Owned (sym done.is) (done_own done.digest)) fell
-    tail_fell behind (inr (inl other)) fell = fell_broke (saving found.item found.life) (saves_of P found) behind (causes.DigestDiffers other.have other.wanted) other.is fell
-    tail_fell behind (inr (inr (inl early))) fell = fell_broke (saving found.item found.life) (saves_of P found) behind (causes.PartShort early.have early.wanted) early.is fell
-    tail_fell behind (inr (inr (inr file))) fell = fell_file (saving found.item found.life) (saves_of P found) behind file fell
+    -- what the part reads confirms the sum
+    done_met : MayFinish found.item found.life → (digest : List ℕ) → IsConfirmed tells clock old.disk found.item found.life digest → DeskDone tells clock says far counts scene pass trace digest
+    done_met may digest confirmed = record {
+      desk = old;
+      live = live;
+      full = full_same P found may;
+      stated = subst (λ (d : Option (List ℕ)). IfSome d (λ x. x ≡ digest)) (digest_same P found) confirmed.stated;
+      sum = λ t. subst (λ (n : ℕ). HasSum (part_bytes clock old.disk (told_by scene trace.told)) n digest) (total_same P found)
+          (subst (λ (b : Option (List ℕ)). HasSum b (total_of found.item found.life) digest) (part_same P found) (confirmed.sum t));
+    }
 
-    naming_fell : FellNaming tells clock old new found.item found.life → DeskFell tells clock says far counts scene new trace
-    naming_fell naming = by (saves_of P found)
-      where
-        first : History
-        first = entries.Finishing found.item.id (total_of found.item found.life) ∷ []
+    differs_met : MayFinish found.item found.life → (have wanted : List ℕ) → Differs tells clock old.disk found.item found.life have wanted → Met (causes.DigestDiffers have wanted)
+    differs_met may have wanted differs = record {
+      desk = old;
+      live = live;
+      is = (
+        full_same P found may,
+        sym (digest_same P found) ∙ differs.stated,
+        differs.other,
+        λ t. subst (λ (n : ℕ). HasSum (part_bytes clock old.disk (told_by scene trace.told)) n have) (total_same P found)
+            (subst (λ (b : Option (List ℕ)). HasSum b (total_of found.item found.life) have) (part_same P found) (differs.sum t)),
+      );
+    }
 
-        by : Saved (saving found.item found.life) → DeskFell tells clock says far counts scene new trace
-        by (saved saves is planned front_own) =
-            let after = with_saves trace saves in
-            let front = saving found.item found.life in
-            let es = front ++ entries.Finishing found.item.id (total_of found.item found.life) ∷ [] in
-            let rest = entries.Done found.item.id naming.digest at ∷ [] in
-            let own : Owned es = own_both id.0 front (entries.Finishing found.item.id (total_of found.item found.life) ∷ []) front_own ((done_own naming.digest).0, tt) in
-            let whole : (before ++ es) ++ rest ≡ all_entries scene after (Done (total_by scene trace) naming.digest) =
-            ap (λ (h : History). h ++ rest) (append_assoc head (so_far id trace) es) ∙ append_assoc head (so_far id trace ++ es) rest
-            ∙ ap (λ (h : History). head ++ h)
-            (ap (λ (h : History). h ++ rest) (sym (append_assoc (so_far id trace) front (entries.Finishing found.item.id (total_of found.item found.life) ∷ [])) ∙ ap (λ (h : History). h ++ entries.Finishing found.item.id (total_of found.item found.life) ∷ []) is)
-            ∙ append_assoc (so_far id after) (entries.Finishing found.item.id (total_of found.item found.life) ∷ []) rest
-            ∙ ap (λ (h : History). so_far id after ++ h) (done_is naming.digest) ∙ so_closed id scene.at after (Done (total_by scene trace) naming.digest)) in
-            record {
-              after = after;
-              led_is = refl;
-              lost_is = refl;
-              rounds_are = refl;
-              close = Done (total_by scene trace) naming.digest;
-              recorded = before ++ es;
-              failed = [];
-              rest = rest;
-              is = sym whole ∙ ap (λ (h : History). h ++ rest) (sym (append-nil (before ++ es)));
-              goes = finish_goes es [] true (becomes_went old new es [] true naming.becomes) own;
-              planned = planned;
-            }
+    early_met : MayFinish found.item found.life → (have wanted : ℕ) → EndsEarly tells clock old.disk found.item found.life have wanted → Met (causes.PartShort have wanted)
+    early_met may have wanted early = record {
+      desk = old;
+      live = live;
+      is = (full_same P found may, early.wanted_is ∙ total_same P found, early.short, λ t. early.have_is t ∙ ap length_of (part_same P found));
+    }
 
-    journal_fell : FinishFell tells clock counts old new at found.item found.life → DeskFell tells clock says far counts scene new trace
-    journal_fell (inl fell) =
-        fell_closing (saving found.item found.life) (saves_of P found) [] (close_entries id scene.at (Broken causes.Memory)) (Broken causes.Memory) refl tt (subst (Fell old new) (sym (append-nil (saving found.item found.life))) fell)
-    journal_fell (inr (inl file)) = fell_file [] bare_saved file.1.behind file.1.is file.1.fell
-    journal_fell (inr (inr (inl tail))) = tail_fell tail.behind tail.is tail.fell
-    journal_fell (inr (inr (inr naming))) = naming_fell naming
+    shows_met : (cause : Cause) → Met cause → Shows (Broken cause)
+    shows_met cause met = inr (inr (inr (inl (subst (λ (p : Pass). DeskMet tells clock says far counts scene p trace cause) live.pass_is met))))
+
+    shows_done : (digest : List ℕ) → DeskDone tells clock says far counts scene pass trace digest → Shows (Done (total_by scene trace) digest)
+    shows_done digest met = (refl, subst (λ (p : Pass). DeskDone tells clock says far counts scene p trace digest) live.pass_is met)
+
+    fell_broke : (front : History) → Saved front → (behind : History) (cause : Cause) → behind ≡ entries.Broke found.item.id (reason_of_cause cause) ∷ [] → Fell old new (front ++ behind) → Shows (Broken cause)
+        → DeskFell tells clock says far counts scene new trace NoCause
+    fell_broke front front_saved behind cause is fell shows =
+        fell_closing front front_saved behind [] (Broken cause) (append-nil behind ∙ is ∙ broke_is cause) (subst Owned (sym is) (broke_own cause)) fell shows
+
+    fell_file : (front : History) → Saved front → (behind : History) → FileBroke (counts old.disk) (counts new.disk) found.item.id behind → Fell old new (front ++ behind) → DeskFell tells clock says far counts scene new trace NoCause
+    fell_file front front_saved behind file fell =
+        fell_broke front front_saved behind (causes.File file.is.kind) (file.one ∙ ap (λ (e : Entry). e ∷ []) file.is.is) fell
+        (inr (inr (inl (record { kind = file.is.kind; is = refl; rose = rose_later (counts scene.start.disk file.is.kind) (counts old.disk file.is.kind) (counts new.disk file.is.kind) (live.goes.later file.is.kind) file.is.rose }))))
+
+    module _ (may : MayFinish found.item found.life) where
+      tail_fell : (behind : History) → FinishTail tells clock counts old.disk new.disk at found.item found.life behind → Fell old new (saving found.item found.life ++ behind) → DeskFell tells clock says far counts scene new trace NoCause
+      tail_fell behind (inl done) fell =
+          fell_closing (saving found.item found.life) (saves_of P found) behind [] (Done (total_by scene trace) done.digest) (append-nil behind ∙ done.is ∙ done_is done.digest) (subst Owned (sym done.is) (done_own done.digest)) fell
+          (shows_done done.digest (done_met may done.digest done.confirmed))
+      tail_fell behind (inr (inl other)) fell =
+          fell_broke (saving found.item found.life) (saves_of P found) behind (causes.DigestDiffers other.have other.wanted) other.is fell
+          (shows_met (causes.DigestDiffers other.have other.wanted) (differs_met may other.have other.wanted other.differs))
+      tail_fell behind (inr (inr (inl early))) fell =
+          fell_broke (saving found.item found.life) (saves_of P found) behind (causes.PartShort early.have early.wanted) early.is fell
+          (shows_met (causes.PartShort early.have early.wanted) (early_met may early.have early.wanted early.early))
+      tail_fell behind (inr (inr (inr file))) fell = fell_file (saving found.item found.life) (saves_of P found) behind file fell
+
+      naming_fell : FellNaming tells clock old new found.item found.life → DeskFell tells clock says far counts scene new trace NoCause
+      naming_fell naming = by (saves_of P found)
+        where
+          first : History
+          first = entries.Finishing found.item.id (total_of found.item found.life) ∷ []
+
+          by : Saved (saving found.item found.life) → DeskFell tells clock says far counts scene new trace NoCause
+          by (saved saves is planned front_own) =
+              let after = with_saves trace saves in
+              let front = saving found.item found.life in
+              let es = front ++ entries.Finishing found.item.id (total_of found.item found.life) ∷ [] in
+              let rest = entries.Done found.item.id naming.digest at ∷ [] in
+              let own : Owned es = own_both id.0 front (entries.Finishing found.item.id (total_of found.item found.life) ∷ []) front_own ((done_own naming.digest).0, tt) in
+              let whole : (before ++ es) ++ rest ≡ all_entries scene after (Done (total_by scene trace) naming.digest) =
+              ap (λ (h : History). h ++ rest) (append_assoc head (so_far id trace) es) ∙ append_assoc head (so_far id trace ++ es) rest
+              ∙ ap (λ (h : History). head ++ h)
+              (ap (λ (h : History). h ++ rest) (sym (append_assoc (so_far id trace) front (entries.Finishing found.item.id (total_of found.item found.life) ∷ [])) ∙ ap (λ (h : History). h ++ entries.Finishing found.item.id (total_of found.item found.life) ∷ []) is)
+              ∙ append_assoc (so_far id after) (entries.Finishing found.item.id (total_of found.item found.life) ∷ []) rest
+              ∙ ap (λ (h : History). so_far id after ++ h) (done_is naming.digest) ∙ so_closed id scene.at after (Done (total_by scene trace) naming.digest)) in
+              record {
+                after = after;
+                led_is = refl;
+                lost_is = refl;
+                rounds_are = refl;
+                close = Done (total_by scene trace) naming.digest;
+                seen = trace.saves;
+                shows = shows_done naming.digest (done_met may naming.digest naming.confirmed);
+                recorded = before ++ es;
+                failed = [];
+                rest = rest;
+                is = sym whole ∙ ap (λ (h : History). h ++ rest) (sym (append-nil (before ++ es)));
+                goes = finish_goes es [] true (becomes_went old new es [] true naming.becomes) own;
+                planned = planned;
+              }
+
+      journal_fell : FinishFell tells clock counts old new at found.item found.life → DeskFell tells clock says far counts scene new trace NoCause
+      journal_fell (inl fell) =
+          fell_closing (saving found.item found.life) (saves_of P found) [] (close_entries id scene.at (Broken causes.Memory)) (Broken causes.Memory) refl tt (subst (Fell old new) (sym (append-nil (saving found.item found.life))) fell) (inl refl)
+      journal_fell (inr (inl file)) = fell_file [] bare_saved file.1.behind file.1.is file.1.fell
+      journal_fell (inr (inr (inl tail))) = tail_fell tail.behind tail.is tail.fell
+      journal_fell (inr (inr (inr naming))) = naming_fell naming
 
     file_over : (kind : DiskKind) → FinishBroke old new kind found.item found.life → (saves : List (List Slice)) × DeskOver tells clock says far counts scene new (with_saves trace saves) (Broken (causes.File kind))
     file_over kind (inl bare) = over_closing [] bare_saved (Broken (causes.File kind)) (entries.Broke found.item.id (reason_of_file kind) ∷ []) (broke_is (causes.File kind)) (broke_own (causes.File kind)) bare.1
@@ -274,58 +332,27 @@ module _ {D O : Type 0} (tells : Type 0) (clock : D → Clock) (says : O → Say
     still same = subst (λ (view : View D O). LiveDesk tells clock says far counts scene pass view trace) (sym same) live
 
     pub finish_done : FinishAnswers tells clock counts old new pass at (Ok finished.Complete) → FinishLeaves tells clock says far counts scene pass old new trace (Ok true)
+    unfolding done_met
     finish_done found =
         let P = IsFinished tells clock old new at in
         let over = over_closing (saving found.item found.life) (saves_of P found) (Done (total_by scene trace) found.is.digest) (finishing_entries found.item found.life found.is.digest at) (done_is P found at at_is found.is.digest)
         (done_own P found at at_is found.is.digest) found.is.recorded in
-        record {
-          digest = found.is.digest;
-          full = full_same P found found.is.may;
-          stated = subst (λ (d : Option (List ℕ)). IfSome d (λ x. x ≡ found.is.digest)) (digest_same P found) found.is.confirmed.stated;
-          sum = λ t. subst (λ (n : ℕ). HasSum (part_bytes clock old.disk (told_by scene trace.told)) n found.is.digest) (total_same P found)
-              (subst (λ (b : Option (List ℕ)). HasSum b (total_of found.item found.life) found.is.digest) (part_same P found) (found.is.confirmed.sum t));
-          saves = over.0;
-          over = over.1;
-        }
+        let met = done_met P found at at_is found.is.may found.is.digest found.is.confirmed in
+        record { digest = found.is.digest; full = met.full; stated = met.stated; sum = met.sum; saves = over.0; over = over.1 }
 
     pub finish_differs : (have wanted : List ℕ) → FinishAnswers tells clock counts old new pass at (Ok (finished.Mismatch have wanted)) → FinishLeaves tells clock says far counts scene pass old new trace (Err (stops.Recorded reasons.FileHashMismatch))
     finish_differs have wanted found =
         let P : Item → Life → Type 0 = λ item life. MayFinish item life × Differs tells clock old.disk item life have wanted × Recorded old new (saving item life ++ entries.Broke item.id reasons.FileHashMismatch ∷ []) in
         let cause = causes.DigestDiffers have wanted in
         let over = over_closing (saving found.item found.life) (saves_of P found) (Broken cause) (entries.Broke found.item.id reasons.FileHashMismatch ∷ []) (broke_is P found at at_is cause) (broke_own P found at at_is cause) found.is.2 in
-        record {
-          cause = cause;
-          reason_is = refl;
-          met = record {
-            desk = old;
-            live = live;
-            is = (
-              sym (digest_same P found) ∙ found.is.1.stated,
-              found.is.1.other,
-              λ t. subst (λ (n : ℕ). HasSum (part_bytes clock old.disk (told_by scene trace.told)) n have) (total_same P found)
-                  (subst (λ (b : Option (List ℕ)). HasSum b (total_of found.item found.life) have) (part_same P found) (found.is.1.sum t)),
-            );
-          };
-          saves = over.0;
-          over = over.1;
-        }
+        record { cause = cause; reason_is = refl; met = inl (differs_met P found at at_is found.is.0 have wanted found.is.1); saves = over.0; over = over.1 }
 
     pub finish_short : (have wanted : ℕ) → FinishAnswers tells clock counts old new pass at (Ok (finished.Short have wanted)) → FinishLeaves tells clock says far counts scene pass old new trace (Err (stops.Recorded reasons.FileTooShort))
     finish_short have wanted found =
         let P : Item → Life → Type 0 = λ item life. MayFinish item life × EndsEarly tells clock old.disk item life have wanted × Recorded old new (saving item life ++ entries.Broke item.id reasons.FileTooShort ∷ []) in
         let cause = causes.PartShort have wanted in
         let over = over_closing (saving found.item found.life) (saves_of P found) (Broken cause) (entries.Broke found.item.id reasons.FileTooShort ∷ []) (broke_is P found at at_is cause) (broke_own P found at at_is cause) found.is.2 in
-        record {
-          cause = cause;
-          reason_is = refl;
-          met = record {
-            desk = old;
-            live = live;
-            is = (found.is.1.wanted_is ∙ total_same P found, found.is.1.short, λ t. found.is.1.have_is t ∙ ap length_of (part_same P found));
-          };
-          saves = over.0;
-          over = over.1;
-        }
+        record { cause = cause; reason_is = refl; met = inl (early_met P found at at_is found.is.0 have wanted found.is.1); saves = over.0; over = over.1 }
 
     pub finish_ok : (f : Finished) → FinishAnswers tells clock counts old new pass at (Ok f) → FinishLeaves tells clock says far counts scene pass old new trace (finished_by f)
     finish_ok finished.Complete found = finish_done found
@@ -368,7 +395,7 @@ module _ {D O : Type 0} (tells : Type 0) (clock : D → Clock) (says : O → Say
     finish_left (faults.File kind) stop is answer rose =
         left (faults.File kind) (since kind rose, file_over (λ item life. MayFinish item life × FinishBroke old new kind item life) answer at at_is kind answer.is.1) stop is
     finish_left (faults.Journal kind) stop is answer rose =
-        left (faults.Journal kind) (since kind rose, journal_fell (λ item life. MayFinish item life × FinishFell tells clock counts old new at item life) answer at at_is answer.is.1) stop is
+        left (faults.Journal kind) (since kind rose, journal_fell (λ item life. MayFinish item life × FinishFell tells clock counts old new at item life) answer at at_is answer.is.0 answer.is.1) stop is
     finish_left (faults.PastEnd end) stop is answer rose = absurd answer
     finish_left (faults.CheckpointDue bytes) stop is answer rose = absurd answer
     finish_left (faults.ItemsFull count) stop is answer rose = absurd answer

@@ -17,9 +17,11 @@ use Rattle.dm_types.specs.declared.reason.Reason.TheVariants as reasons
 use Rattle.dm_types.specs.declared.slices.Slice.{Slice}
 use Rattle.dm_disk_model.specs.Disk.{History as Clock}
 use Rattle.dm_policy.specs.declared.cause.Cause.TheVariants as causes
+use Rattle.dm_name.specs.Forms.{AreAllTaken}
 use Rattle.dm_slice.specs.Plan.{opened_by, parts_by}
 use Rattle.dm_slice.specs.declared.plan.Part.{Part}
 use Rattle.dm_edge.specs.Wire.{Closed}
+use Rattle.dm_item.specs.Fields.{no_bytes}
 use Rattle.dm_item.specs.Lawful.{History, IsOf}
 use Rattle.dm_item.specs.Listing.{Listing, changed_at, item_in}
 use Rattle.dm_item.specs.Row.{changed}
@@ -49,10 +51,11 @@ use Rattle.dm_attempt.specs.declared.stop.Stop.TheVariants as stops
 use Rattle.dm_attempt.specs.Asking.{Asking}
 use Rattle.dm_attempt.specs.Ends.{DescribeLeaves, IsNamedBy, PlanLeaves, empty_share, next_parts, next_round, plan_stop, tale_of}
 use Rattle.dm_attempt.specs.Goes.{CallGoes, DeskGoes}
-use Rattle.dm_attempt.specs.Live.{DeskFell, IsTraced, LiveDesk}
+use Rattle.dm_attempt.specs.Live.{IsTraced, LiveDesk}
 use Rattle.dm_attempt.specs.Scene.{Scene, begun_by, cover_by, item_by, told_by}
+use Rattle.dm_attempt.specs.Shows.{DeskFell, DeskMet, NoCause}
 use Rattle.dm_attempt.specs.Stops.{FaultLeaves, Refused, stop_by}
-use Rattle.dm_attempt.specs.Trace.{AreAtEnds, AreNumbered, Broken, Trace, close_entries, opened, so_far, told_with, untold}
+use Rattle.dm_attempt.specs.Trace.{AreAtEnds, AreNumbered, Broken, Trace, close_entries, opened, so_far, told_with, untold, wished}
 use Rattle.dm_attempt.proofs.Answers.{by_outside}
 use Rattle.dm_attempt.proofs.Goes.{goes_then}
 use Rattle.dm_attempt.proofs.Items.{all_saves, item_then, life_then}
@@ -170,20 +173,46 @@ module _ {D O : Type 0} (tells : Type 0) (clock : D → Clock) (says : O → Say
       round_refused (faults.WordTaken id) answer = absurd answer
       round_refused (faults.Damaged place) answer = absurd answer
 
-  module _ (led : List Closed) (count : ℕ) (told : Told) (address : Address) (none : (begun_by scene).key ≡ None) (at : told.last_address ≡ address.text) (live : Lives old (untold led count)) where
+  -- before the first reply was told nothing is covered
+  pub bare_start : (led lost : List Closed) (count : ℕ) → (begun_by scene).key ≡ None → Lives old (untold led lost count) → IsDesk tells clock old → (begun_by scene).slices ≡ no_bytes
+  bare_start led lost count none live desk =
+      let is = life_is tells clock old pass (IsTraced scene (untold led lost count)) desk live.goes.went.broken_is live.runs in
+      sym live.runs.is.cover_is ∙ (is.untold (ap (λ (i : Item). i.key) live.runs.is.item_is ∙ none)).0
+
+  module _ (led lost : List Closed) (count : ℕ) (told : Told) (address : Address) (none : (begun_by scene).key ≡ None) (at : told.last_address ≡ address.text) (bare : Lives old (untold led lost count)) where
+    -- the trace with the wish
+    abbrev mine : Trace
+    mine = wished led lost count told.wish
+
+    live : Lives old mine
+    live = record {
+      goes = bare.goes;
+      pass_is = bare.pass_is;
+      runs = record {
+        item = bare.runs.item;
+        there = bare.runs.there;
+        runs = bare.runs.runs;
+        attempt_is = bare.runs.attempt_is;
+        life = bare.runs.life;
+        lives = bare.runs.lives;
+        is = record { item_is = bare.runs.is.item_is; cover_is = bare.runs.is.cover_is; round_is = bare.runs.is.round_is; plan_is = bare.runs.is.plan_is };
+      };
+      planned = record { saves = tt; rounds = tt; placed = tt };
+    }
+
     entry_is : (name : List ℕ) → described_by pass told name ≡ entries.Described scene.item.id told.key address.text told.total name told.modified
     entry_is name =
-        ap (λ (i : ItemId). entries.Described i told.key told.last_address told.total name told.modified) (own_id tells clock says far counts scene pass old (untold led count) live)
+        ap (λ (i : ItemId). entries.Described i told.key told.last_address told.total name told.modified) (own_id tells clock says far counts scene pass old mine live)
         ∙ ap (λ (t : List ℕ). entries.Described scene.item.id told.key t told.total name told.modified) at
 
-    named_live : (name : List ℕ) → Recorded old new (described_by pass told name ∷ []) → Lives new (told_with led count (tale_of address told name))
+    named_live : (name : List ℕ) → Recorded old new (described_by pass told name ∷ []) → Lives new (told_with led lost count told.wish (tale_of address told name))
     named_live name recorded =
         let entry = entries.Described scene.item.id told.key address.text told.total name told.modified in
         let own : Recorded old new (entry ∷ []) = subst (λ (e : Entry). Recorded old new (e ∷ [])) (entry_is name) recorded in
-        let same = own_id tells clock says far counts scene pass old (untold led count) live in
+        let same = own_id tells clock says far counts scene pass old mine live in
         record {
           goes = subst (λ (h : History). DeskGoes tells clock says far counts IsPart scene.start new h [] false) (simp (append-nil, append_assoc))
-              (goes_on tells clock says far counts scene pass old new call (untold led count) (entry ∷ []) live own);
+              (goes_on tells clock says far counts scene pass old new call mine (entry ∷ []) live own);
           pass_is = live.pass_is;
           runs = record {
             item = changed entry live.runs.item;
@@ -203,38 +232,45 @@ module _ {D O : Type 0} (tells : Type 0) (clock : D → Clock) (says : O → Say
           planned = record { saves = tt; rounds = tt; placed = tt };
         }
 
-    pub was_named : RecordedOne old new (Names tells clock old pass told named.Named) → WithNames tells clock old (IsNamedBy tells clock says far counts scene pass new led count told address)
+    pub was_named : RecordedOne old new (Names tells clock old pass told named.Named) → WithNames tells clock old (IsNamedBy tells clock says far counts scene pass new led lost count told address)
     was_named one = record {
       listed = one.is.listed;
       lists = one.is.lists;
       is = record { name = one.is.is.name; free = one.is.is.free; live = named_live one.is.is.name (subst (λ (e : Entry). Recorded old new (e ∷ [])) one.is.is.is one.recorded) };
     }
 
-    pub none_named : RecordedOne old new (Names tells clock old pass told named.AllTaken) → DescribeLeaves tells clock says far counts scene pass old new led count told address (Err (stops.Recorded reasons.FileFailed))
+    none_met : WithNames tells clock old (AreAllTaken told.wish) → DeskMet tells clock says far counts scene pass mine causes.NamesTaken
+    none_met all = record { desk = old; live = live; is = (told.wish, refl, all) }
+
+    pub none_named : RecordedOne old new (Names tells clock old pass told named.AllTaken) → DescribeLeaves tells clock says far counts scene pass old new led lost count told address (Err (stops.Recorded reasons.FileFailed))
     none_named one = (
       refl,
       record {
-        all = record { listed = one.is.listed; lists = one.is.lists; is = one.is.is.all };
-        over = over_by tells clock says far counts scene pass old new call (untold led count) causes.NamesTaken live (subst (λ (e : Entry). Recorded old new (e ∷ [])) one.is.is.is one.recorded);
+        cause = causes.NamesTaken;
+        reason_is = refl;
+        met = inl (none_met (record { listed = one.is.listed; lists = one.is.lists; is = one.is.is.all }));
+        saves = [];
+        over = over_by tells clock says far counts scene pass old new call mine causes.NamesTaken live (subst (λ (e : Entry). Recorded old new (e ∷ [])) one.is.is.is one.recorded);
       },
     )
 
-    fell_naming : FellWith old new [] (DescribeTries tells clock counts old new pass told) → DeskFell tells clock says far counts scene new (untold led count)
+    fell_naming : FellWith old new [] (DescribeTries tells clock counts old new pass told) → DeskFell tells clock says far counts scene new mine NoCause
     fell_naming fell = by fell.is
       where
-        by : DescribeTries tells clock counts old new pass told fell.behind → DeskFell tells clock says far counts scene new (untold led count)
+        by : DescribeTries tells clock counts old new pass told fell.behind → DeskFell tells clock says far counts scene new mine NoCause
         by (inl gives) =
             let name = gives.is.is.name in
             let entry = entries.Described scene.item.id told.key address.text told.total name told.modified in
             let tries : fell.behind ≡ entry ∷ [] = gives.one ∙ ap (λ (e : Entry). e ∷ []) (gives.is.is.is ∙ entry_is name) in
-            fell_at tells clock says far counts scene pass old new call (untold led count) (told_with led count (tale_of address told name)) (Broken causes.Memory) (entry ∷ []) (close_entries scene.item.id scene.at (Broken causes.Memory)) refl refl refl live
-            (record { saves = tt; rounds = tt; placed = tt }) (subst (Fell old new) tries fell.fell) refl
+            fell_at tells clock says far counts scene pass old new call NoCause mine (told_with led lost count told.wish (tale_of address told name)) (Broken causes.Memory) (entry ∷ []) (close_entries scene.item.id scene.at (Broken causes.Memory)) refl refl refl live
+            (record { saves = tt; rounds = tt; placed = tt }) (subst (Fell old new) tries fell.fell) refl (inl refl)
         by (inr (inl none)) =
-            let same = own_id tells clock says far counts scene pass old (untold led count) live in
+            let same = own_id tells clock says far counts scene pass old mine live in
             let entry = entries.Broke scene.item.id reasons.FileFailed in
             let tries : fell.behind ≡ entry ∷ [] = none.one ∙ ap (λ (e : Entry). e ∷ []) (none.is.is.is ∙ ap (λ (i : ItemId). entries.Broke i reasons.FileFailed) same) in
-            fell_at tells clock says far counts scene pass old new call (untold led count) (untold led count) (Broken causes.NamesTaken) (entry ∷ []) [] refl refl refl live live.planned (subst (Fell old new) tries fell.fell) refl
-        by (inr (inr file)) = fell_file tells clock says far counts scene pass old new call (untold led count) live (record { behind = fell.behind; is = file; fell = fell.fell })
+            fell_at tells clock says far counts scene pass old new call NoCause mine mine (Broken causes.NamesTaken) (entry ∷ []) [] refl refl refl live live.planned (subst (Fell old new) tries fell.fell) refl
+            (inr (inr (inr (inl (subst (λ (p : Pass). DeskMet tells clock says far counts scene p mine causes.NamesTaken) live.pass_is (none_met (record { listed = none.is.listed; lists = none.is.lists; is = none.is.is.all })))))))
+        by (inr (inr file)) = fell_file tells clock says far counts scene pass old new call mine live (record { behind = fell.behind; is = file; fell = fell.fell })
 
     still_went : new ≡ record old { disk = new.disk } → Went old new [] [] false
     still_went same = subst (λ (view : View D O). Went old view [] [] false) (sym same) (record {
@@ -250,29 +286,29 @@ module _ {D O : Type 0} (tells : Type 0) (clock : D → Clock) (says : O → Say
       limits = refl;
     })
 
-    still_live : new ≡ record old { disk = new.disk } → Lives new (untold led count)
+    still_live : new ≡ record old { disk = new.disk } → Lives new mine
     still_live same = record {
       goes = subst (λ (h : History). DeskGoes tells clock says far counts IsPart scene.start new h [] false) (append-nil _) (goes_then tells clock says far counts IsPart scene.start old new _ [] [] false live.goes (still_went same) call);
       pass_is = live.pass_is;
-      runs = subst (λ (view : View D O). RunsWith view pass.id pass.attempt (IsTraced scene (untold led count))) (sym same)
+      runs = subst (λ (view : View D O). RunsWith view pass.id pass.attempt (IsTraced scene mine)) (sym same)
           (record { item = live.runs.item; there = live.runs.there; runs = live.runs.runs; attempt_is = live.runs.attempt_is; life = live.runs.life; lives = live.runs.lives; is = live.runs.is });
       planned = live.planned;
     }
 
-    pub describe_stops : (fault : DeskFault) → DescribeAnswers tells clock counts old new pass told (Err fault) → Raises fault → Refused tells clock says far counts scene pass new (untold led count) (stop_by fault)
+    pub describe_stops : (fault : DeskFault) → DescribeAnswers tells clock counts old new pass told (Err fault) → Raises fault → Refused tells clock says far counts scene pass new mine (stop_by fault)
     describe_stops fault answer rose =
-        by_outside (λ (f : DeskFault). DescribeAnswers tells clock counts old new pass told (Err f) → Raises f → Refused tells clock says far counts scene pass new (untold led count) (stop_by f))
-        (λ kind found up. file_leaves tells clock says far counts scene pass old new call (untold led count) kind live found.1 up)
-        (λ kind found up. journal_leaves tells clock says far counts scene pass old new call (untold led count) kind live (fell_naming found.1) up)
+        by_outside (λ (f : DeskFault). DescribeAnswers tells clock counts old new pass told (Err f) → Raises f → Refused tells clock says far counts scene pass new mine (stop_by f))
+        (λ kind found up. file_leaves tells clock says far counts scene pass old new call mine kind live found.1 up)
+        (λ kind found up. journal_leaves tells clock says far counts scene pass old new call mine kind live (fell_naming found.1) up)
         (λ found up. still_live found.same)
         fault (hard_describe tells clock counts old new pass told fault live.goes.went.broken_is
-        (weaker old pass.id pass.attempt (IsTraced scene (untold led count)) IsSilent (λ item life traced. ap (λ (i : Item). i.key) traced.item_is ∙ none) live.runs) answer) answer rose
+        (weaker old pass.id pass.attempt (IsTraced scene mine) IsSilent (λ item life traced. ap (λ (i : Item). i.key) traced.item_is ∙ none) live.runs) answer) answer rose
 
-    left_by : (stop : Stop) → Refused tells clock says far counts scene pass new (untold led count) stop → DescribeLeaves tells clock says far counts scene pass old new led count told address (Err stop)
+    left_by : (stop : Stop) → Refused tells clock says far counts scene pass new mine stop → DescribeLeaves tells clock says far counts scene pass old new led lost count told address (Err stop)
     left_by (stops.Broke cause) refused = absurd refused
     left_by stops.NoMemory refused = refused
     left_by (stops.Fault fault) refused = refused
     left_by (stops.Recorded reason) refused = absurd refused
 
-    pub describe_left : (fault : DeskFault) → DescribeAnswers tells clock counts old new pass told (Err fault) → Raises fault → DescribeLeaves tells clock says far counts scene pass old new led count told address (Err (stop_by fault))
+    pub describe_left : (fault : DeskFault) → DescribeAnswers tells clock counts old new pass told (Err fault) → Raises fault → DescribeLeaves tells clock says far counts scene pass old new led lost count told address (Err (stop_by fault))
     describe_left fault answer rose = left_by (stop_by fault) (describe_stops fault answer rose)

@@ -46,9 +46,10 @@ use Rattle.dm_answers.specs.declared.fault.DeskFault.TheVariants as faults
 use Rattle.dm_attempt.specs.declared.stop.Stop.{Stop}
 use Rattle.dm_attempt.specs.declared.stop.Stop.TheVariants as stops
 use Rattle.dm_attempt.specs.Goes.{CallGoes, DeskGoes}
-use Rattle.dm_attempt.specs.Live.{ArePlaced, DeskFell, DeskOver, IsPlanned, IsSpared, IsTraced, LiveDesk, NothingUnsaved, all_entries}
+use Rattle.dm_attempt.specs.Live.{ArePlaced, DeskOver, IsPlanned, IsSpared, IsTraced, LiveDesk, NothingUnsaved, all_entries}
 use Rattle.dm_attempt.specs.Scene.{Scene, begun_by, changed_all, cover_by, item_by, told_by}
 use Rattle.dm_attempt.specs.Shares.{IsNext, Share, added}
+use Rattle.dm_attempt.specs.Shows.{DeskFell, NoCause, ShowsClose}
 use Rattle.dm_attempt.specs.Stops.{FaultLeaves, LandLeaves, Refused, SaveLeaves, due_by, stop_by}
 use Rattle.dm_attempt.specs.Trace.{AreAtEnds, AreNumbered, Broken, Close, Round, Trace, close_entries, entries_behind, opened, so_far, told_entries, with_piece, with_saves}
 use Rattle.dm_attempt.proofs.Answers.{LandFault, by_outside, due, land_fault, outside}
@@ -153,9 +154,9 @@ module _ {D O : Type 0} (tells : Type 0) (clock : D → Clock) (says : O → Say
         }
 
     -- the journal failed at one of these entries, which an attempt that goes on and closes so has
-    pub fell_at : (trace after : Trace) (close : Close) (tries more : History) → after.led ≡ trace.led → after.lost ≡ trace.lost → after.rounds ≡ trace.rounds → Live old trace → IsPlanned scene after → Fell old new tries
-        → (so_far id trace ++ tries) ++ more ≡ entries_behind id scene.at after close → DeskFell tells clock says far counts scene new trace
-    fell_at trace after close tries more led lost rounds live planned fell is =
+    pub fell_at : (P : Cause → Type 0) (trace after : Trace) (close : Close) (tries more : History) → after.led ≡ trace.led → after.lost ≡ trace.lost → after.rounds ≡ trace.rounds → Live old trace → IsPlanned scene after → Fell old new tries
+        → (so_far id trace ++ tries) ++ more ≡ entries_behind id scene.at after close → ShowsClose tells clock says far counts scene new trace P close → DeskFell tells clock says far counts scene new trace P
+    fell_at P trace after close tries more led lost rounds live planned fell is shows =
         let before = so_far id trace in
         let parts : head ++ ((before ++ (fell.recorded ++ fell.entry ∷ fell.rest)) ++ more) ≡ (((head ++ before) ++ fell.recorded) ++ fell.entry ∷ []) ++ (fell.rest ++ more) =
         simp append_assoc in
@@ -165,6 +166,8 @@ module _ {D O : Type 0} (tells : Type 0) (clock : D → Clock) (says : O → Say
           lost_is = lost;
           rounds_are = rounds;
           close = close;
+          seen = trace.saves;
+          shows = shows;
           recorded = (head ++ before) ++ fell.recorded;
           failed = fell.entry ∷ [];
           rest = fell.rest ++ more;
@@ -174,21 +177,25 @@ module _ {D O : Type 0} (tells : Type 0) (clock : D → Clock) (says : O → Say
           planned = planned;
         }
 
+    -- a call on the files failed
+    pub file_shows : (trace : Trace) → Live old trace → (kind : DiskKind) → Rose (counts old.disk kind) (counts new.disk kind) → ShowsClose tells clock says far counts scene new trace NoCause (Broken (causes.File kind))
+    file_shows trace live kind rose = inr (inr (inl (record { kind = kind; is = refl; rose = rose_later (counts scene.start.disk kind) (counts old.disk kind) (counts new.disk kind) (live.goes.later kind) rose })))
+
     -- the same, of the interruption by a call on the files that failed
-    pub fell_file : (trace : Trace) → Live old trace → FellWith old new [] (FileBroke (counts old.disk) (counts new.disk) pass.id) → DeskFell tells clock says far counts scene new trace
+    pub fell_file : (trace : Trace) → Live old trace → FellWith old new [] (FileBroke (counts old.disk) (counts new.disk) pass.id) → DeskFell tells clock says far counts scene new trace NoCause
     fell_file trace live fell =
         let same = own_id old trace live in
         let cause = causes.File fell.is.is.kind in
         let entry : fell.is.entry ≡ entries.Broke id (reason_of_file fell.is.is.kind) = fell.is.is.is ∙ ap (λ (i : ItemId). entries.Broke i (reason_of_file fell.is.is.kind)) same in
         let tries : fell.behind ≡ entries.Broke id (reason_of_file fell.is.is.kind) ∷ [] = fell.is.one ∙ ap (λ (e : Entry). e ∷ []) entry in
-        fell_at trace trace (Broken cause) (entries.Broke id (reason_of_file fell.is.is.kind) ∷ []) [] refl refl refl live live.planned (subst (Fell old new) tries fell.fell)
-        (append-nil (so_far id trace ++ entries.Broke id (reason_of_file fell.is.is.kind) ∷ []) ∙ so_closed id scene.at trace (Broken cause))
+        fell_at NoCause trace trace (Broken cause) (entries.Broke id (reason_of_file fell.is.is.kind) ∷ []) [] refl refl refl live live.planned (subst (Fell old new) tries fell.fell)
+        (append-nil (so_far id trace ++ entries.Broke id (reason_of_file fell.is.is.kind) ∷ []) ∙ so_closed id scene.at trace (Broken cause)) (file_shows trace live fell.is.is.kind fell.is.is.rose)
 
     pub file_leaves : (trace : Trace) (kind : DiskKind) → Live old trace → Recorded old new (entries.Broke pass.id (reason_of_file kind) ∷ []) → Rose (counts old.disk kind) (counts new.disk kind)
         → FaultLeaves tells clock says far counts scene new trace (faults.File kind)
     file_leaves trace kind live recorded rose = (rose_later (counts scene.start.disk kind) (counts old.disk kind) (counts new.disk kind) (live.goes.later kind) rose, (trace.saves, over_by trace (causes.File kind) live recorded))
 
-    pub journal_leaves : (trace : Trace) (kind : DiskKind) → Live old trace → DeskFell tells clock says far counts scene new trace → Rose (counts old.disk kind) (counts new.disk kind)
+    pub journal_leaves : (trace : Trace) (kind : DiskKind) → Live old trace → DeskFell tells clock says far counts scene new trace NoCause → Rose (counts old.disk kind) (counts new.disk kind)
         → FaultLeaves tells clock says far counts scene new trace (faults.Journal kind)
     journal_leaves trace kind live fell rose = (rose_later (counts scene.start.disk kind) (counts old.disk kind) (counts new.disk kind) (live.goes.later kind) rose, fell)
 
@@ -234,17 +241,17 @@ module _ {D O : Type 0} (tells : Type 0) (clock : D → Clock) (says : O → Say
         ]
 
     -- the journal failed while something was saved
-    pub fell_saving : (trace : Trace) → Live old trace → RunsWith old pass.id pass.attempt (FallsSaving (counts old.disk) (counts new.disk) old new) → DeskFell tells clock says far counts scene new trace
+    pub fell_saving : (trace : Trace) → Live old trace → RunsWith old pass.id pass.attempt (FallsSaving (counts old.disk) (counts new.disk) old new) → DeskFell tells clock says far counts scene new trace NoCause
     fell_saving trace live found = by found.is.fell
       where
         test : (found.life.unsaved == 0) ≡ false
         test = elim (eqb_tells found.life.unsaved 0) [ inl none ↦ absurd (let some = found.is.unsaved in omega (arith, some, none.1)) | inr some ↦ some.0 ]
 
-        by : Fell old new (saving found.item found.life) ⊎ FellWith old new [] (FileBroke (counts old.disk) (counts new.disk) found.item.id) → DeskFell tells clock says far counts scene new trace
+        by : Fell old new (saving found.item found.life) ⊎ FellWith old new [] (FileBroke (counts old.disk) (counts new.disk) found.item.id) → DeskFell tells clock says far counts scene new trace NoCause
         by (inl fell) =
-            fell_at trace (longer old trace live) (Broken causes.Memory) (entries.Progress id (kept_now old trace live) ∷ []) (close_entries id scene.at (Broken causes.Memory)) refl refl refl live (kept_planned old trace live)
+            fell_at NoCause trace (longer old trace live) (Broken causes.Memory) (entries.Progress id (kept_now old trace live) ∷ []) (close_entries id scene.at (Broken causes.Memory)) refl refl refl live (kept_planned old trace live)
             (subst (Fell old new) (saved_entry old trace live (FallsSaving (counts old.disk) (counts new.disk) old new) found test) fell)
-            (ap (λ (h : History). h ++ close_entries id scene.at (Broken causes.Memory)) (sym (so_saved id trace (kept_now old trace live))) ∙ so_closed id scene.at (longer old trace live) (Broken causes.Memory))
+            (ap (λ (h : History). h ++ close_entries id scene.at (Broken causes.Memory)) (sym (so_saved id trace (kept_now old trace live))) ∙ so_closed id scene.at (longer old trace live) (Broken causes.Memory)) (inl refl)
         by (inr fell) =
             let same : found.item.id ≡ pass.id =
             ap (λ (i : Item). i.id) (sym (one_item old pass.id pass.attempt (IsTraced scene trace) (FallsSaving (counts old.disk) (counts new.disk) old new) live.runs found)) ∙ item_id old trace live ∙ sym (own_id old trace live) in

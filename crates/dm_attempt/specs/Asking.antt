@@ -12,12 +12,13 @@ use Rattle.dm_edge.specs.Wire.{Purpose}
 use Rattle.dm_attempt.specs.declared.source.Source.{Source}
 
 -- how a round asks: whether the first reply serves its first part, of which content the other parts are asked for, where they may be, what its connections
--- are made for, and under which key the content stands
+-- are made for, under which key the content stands, and whether its length is known
 pub record Asking : Type 0 where
   pub served : Bool
   pub source : Option Source
   pub purpose : Purpose
   pub key : Key
+  pub known : Bool
 
 -- the range request for a part: up to its last place, under the content's tag (RFC 9110, sections 13.1.5 and 14.2)
 abbrev pub range_of : Source → Part → Wanted

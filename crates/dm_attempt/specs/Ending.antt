@@ -1,5 +1,6 @@
 -- How an attempt ends at the desk.
-use Rattle.std.specs.Prelude.{◌≡◌, ◌≢◌, ℕ, ◌<◌, List, Option, Some, None, Result}
+use Rattle.std.specs.Prelude.{◌≡◌, ◌⊎◌, ℕ, List, Option, Some, None, Result}
+use Rattle.dm_types.specs.Faults.{Rose}
 use Rattle.dm_types.specs.declared.item.Item.{Item}
 use Rattle.dm_types.specs.declared.kinds.DiskKind.{DiskKind}
 use Rattle.dm_types.specs.declared.reason.Reason.{Reason}
@@ -8,16 +9,10 @@ use Rattle.dm_disk_model.specs.Disk.{History as Clock}
 use Rattle.dm_policy.specs.declared.cause.Cause.{Cause}
 use Rattle.dm_policy.specs.declared.cause.Cause.TheVariants as causes
 use Rattle.dm_policy.specs.Cause.{reason_of_cause}
-use Rattle.dm_name.specs.Forms.{AreAllTaken}
 use Rattle.dm_slice.specs.Cover.{SamePlaces}
-use Rattle.dm_slice.specs.Words.{cover_end}
-use Rattle.dm_item.specs.History.{get}
 use Rattle.dm_kept.specs.Files.{Says}
 use Rattle.dm_store.specs.declared.pass.Pass.{Pass}
 use Rattle.dm_store.specs.View.{View}
-use Rattle.dm_answers.specs.Describe.{WithNames}
-use Rattle.dm_answers.specs.Finish.{HasSum}
-use Rattle.dm_answers.specs.Running.{length_of, part_bytes}
 use Rattle.dm_answers.specs.declared.fault.DeskFault.{DeskFault}
 use Rattle.dm_answers.specs.declared.fault.DeskFault.TheVariants as faults
 use Rattle.dm_attempt.specs.declared.ended.Ended.{Ended}
@@ -25,7 +20,8 @@ use Rattle.dm_attempt.specs.declared.ended.Ended.TheVariants as ended
 use Rattle.dm_attempt.specs.declared.stop.Stop.{Stop}
 use Rattle.dm_attempt.specs.declared.stop.Stop.TheVariants as stops
 use Rattle.dm_attempt.specs.Live.{DeskOver, LiveDesk}
-use Rattle.dm_attempt.specs.Scene.{Scene, cover_by, item_by, told_by}
+use Rattle.dm_attempt.specs.Scene.{Scene, cover_by, item_by}
+use Rattle.dm_attempt.specs.Shows.{BeginMet, DeskFell, DeskMet}
 use Rattle.dm_attempt.specs.Stops.{FaultLeaves}
 use Rattle.dm_attempt.specs.Trace.{Broken, Trace, with_saves}
 
@@ -48,31 +44,15 @@ IsOfDesk stops.NoMemory = Unit {0}
 IsOfDesk (stops.Fault fault) = Unit {0}
 IsOfDesk (stops.Recorded reason) = Unit {0}
 
--- how many bytes the content has: the known total, or where the live cover ends
-abbrev pub total_by : {D O : Type 0} → Scene D O → Trace → ℕ
-total_by scene trace = get (told_by scene trace.told).total (cover_end (cover_by scene trace))
-
--- What the desk shows of a cause by which it ends an attempt itself: all forms of a wish are taken; the part has another sum than the stated one, or ends
--- early, as it reads.
-abbrev pub ShowsEnd : {D O : Type 0} → Type 0 → (D → Clock) → Scene D O → View D O → Trace → Cause → Type 0
-ShowsEnd tells clock scene desk trace causes.NamesTaken = (wish : List ℕ) × WithNames tells clock desk (AreAllTaken wish)
-ShowsEnd tells clock scene desk trace (causes.DigestDiffers have wanted) =
-    ((told_by scene trace.told).digest ≡ Some wanted) × (have ≢ wanted) × (tells → HasSum (part_bytes clock desk.disk (told_by scene trace.told)) (total_by scene trace) have)
-ShowsEnd tells clock scene desk trace (causes.PartShort have wanted) =
-    (wanted ≡ total_by scene trace) × (have < wanted) × (tells → have ≡ length_of (part_bytes clock desk.disk (told_by scene trace.told)))
-ShowsEnd tells clock scene desk trace _ = ⊥
-
--- so it was while the attempt ran
-pub record DeskMet {D O : Type 0} (tells : Type 0) (clock : D → Clock) (says : O → Says) (far : D → ℕ) (counts : D → DiskKind → ℕ) (scene : Scene D O) (pass : Pass) (trace : Trace) (cause : Cause) : Type 0 where
-  pub desk : View D O
-  pub live : LiveDesk tells clock says far counts scene pass desk trace
-  pub is : ShowsEnd tells clock scene desk trace cause
+-- the desk showed the cause, while the attempt ran or as it began
+abbrev pub IsDeskCause : {D O : Type 0} → Type 0 → (D → Clock) → (O → Says) → (D → ℕ) → (D → DiskKind → ℕ) → Scene D O → Pass → Trace → Cause → Type 0
+IsDeskCause tells clock says far counts scene pass trace cause = DeskMet tells clock says far counts scene pass trace cause ⊎ BeginMet tells clock scene trace cause
 
 -- the desk has ended the attempt by a cause with this reason
 pub record RecordedBy {D O : Type 0} (tells : Type 0) (clock : D → Clock) (says : O → Says) (far : D → ℕ) (counts : D → DiskKind → ℕ) (scene : Scene D O) (pass : Pass) (present : View D O) (trace : Trace) (reason : Reason) : Type 0 where
   pub cause : Cause
   pub reason_is : reason ≡ reason_of_cause cause
-  pub met : DeskMet tells clock says far counts scene pass trace cause
+  pub met : IsDeskCause tells clock says far counts scene pass trace cause
   pub saves : List (List Slice)
   pub over : DeskOver tells clock says far counts scene present (with_saves trace saves) (Broken cause)
 
@@ -88,7 +68,7 @@ abbrev pub IsCauseOf : {D O : Type 0} → Type 0 → (D → Clock) → (O → Sa
 IsCauseOf tells clock says far counts scene pass trace (stops.Broke met) cause = cause ≡ met
 IsCauseOf tells clock says far counts scene pass trace stops.NoMemory cause = ⊥
 IsCauseOf tells clock says far counts scene pass trace (stops.Fault fault) cause = ⊥
-IsCauseOf tells clock says far counts scene pass trace (stops.Recorded reason) cause = DeskMet tells clock says far counts scene pass trace cause
+IsCauseOf tells clock says far counts scene pass trace (stops.Recorded reason) cause = IsDeskCause tells clock says far counts scene pass trace cause
 
 -- where the driver records a cause, all that was landed is saved
 abbrev pub IsSavedFor : {D O : Type 0} → Scene D O → Trace → List (List Slice) → Stop → Type 0
@@ -106,13 +86,16 @@ pub record StoppedBy {D O : Type 0} (tells : Type 0) (clock : D → Clock) (says
   pub saved : IsSavedFor scene trace saves stop
   pub over : DeskOver tells clock says far counts scene present (with_saves trace saves) (Broken cause)
 
--- memory was wanting and that was recorded, or a fault of the disk ended it
-abbrev pub FaultEnds : {D O : Type 0} → Type 0 → (D → Clock) → (O → Says) → (D → ℕ) → (D → DiskKind → ℕ) → Scene D O → View D O → Trace → DeskFault → Type 0
-FaultEnds tells clock says far counts scene present trace faults.NoMemory = (saves : List (List Slice)) × DeskOver tells clock says far counts scene present (with_saves trace saves) (Broken causes.Memory)
-FaultEnds tells clock says far counts scene present trace fault = FaultLeaves tells clock says far counts scene present trace fault
+-- memory was wanting and that was recorded, or a fault of the disk ended it, perhaps while a cause with P was recorded
+abbrev pub FaultEnds : {D O : Type 0} → Type 0 → (D → Clock) → (O → Says) → (D → ℕ) → (D → DiskKind → ℕ) → Scene D O → View D O → Trace → (Cause → Type 0) → DeskFault → Type 0
+FaultEnds tells clock says far counts scene present trace P faults.NoMemory = (saves : List (List Slice)) × DeskOver tells clock says far counts scene present (with_saves trace saves) (Broken causes.Memory)
+FaultEnds tells clock says far counts scene present trace P (faults.Journal kind) =
+    Rose (counts scene.start.disk kind) (counts present.disk kind) × DeskFell tells clock says far counts scene present trace P
+FaultEnds tells clock says far counts scene present trace P fault = FaultLeaves tells clock says far counts scene present trace fault
 
 -- Each answer, by what ended the attempt.
 abbrev pub EndsBy : {D O : Type 0} → Type 0 → (D → Clock) → (O → Says) → (D → ℕ) → (D → DiskKind → ℕ) → Scene D O → Pass → View D O → Trace → Stop → Ended → Type 0
 EndsBy tells clock says far counts scene pass present trace stop ended.Complete = ⊥
 EndsBy tells clock says far counts scene pass present trace stop (ended.Stopped reason) = StoppedBy tells clock says far counts scene pass present trace stop reason
-EndsBy tells clock says far counts scene pass present trace stop (ended.Fault fault) = FaultEnds tells clock says far counts scene present trace fault
+EndsBy tells clock says far counts scene pass present trace stop (ended.Fault fault) =
+    FaultEnds tells clock says far counts scene present trace (λ cause. IsCauseOf tells clock says far counts scene pass trace stop cause) fault

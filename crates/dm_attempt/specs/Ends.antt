@@ -7,7 +7,7 @@ use Rattle.dm_disk_model.specs.Disk.{History as Clock}
 use Rattle.dm_policy.specs.declared.cause.Cause.{Cause}
 use Rattle.dm_policy.specs.declared.cause.Cause.TheVariants as causes
 use Rattle.dm_policy.specs.Cause.{reason_of_cause}
-use Rattle.dm_name.specs.Forms.{AreAllTaken, IsFirstFree}
+use Rattle.dm_name.specs.Forms.{IsFirstFree}
 use Rattle.dm_slice.specs.Plan.{parts_by}
 use Rattle.dm_slice.specs.declared.plan.Part.{Part}
 use Rattle.dm_edge.specs.Wire.{Closed}
@@ -23,11 +23,12 @@ use Rattle.dm_answers.specs.declared.fault.DeskFault.TheVariants as faults
 use Rattle.dm_attempt.specs.declared.stop.Stop.{Stop}
 use Rattle.dm_attempt.specs.declared.stop.Stop.TheVariants as stops
 use Rattle.dm_attempt.specs.Asking.{Asking}
-use Rattle.dm_attempt.specs.Live.{DeskOver, LiveDesk}
+use Rattle.dm_attempt.specs.Ending.{RecordedBy}
+use Rattle.dm_attempt.specs.Live.{LiveDesk}
 use Rattle.dm_attempt.specs.Scene.{Scene, cover_by, told_by}
 use Rattle.dm_attempt.specs.Shares.{Share}
 use Rattle.dm_attempt.specs.Stops.{FaultLeaves, stop_by}
-use Rattle.dm_attempt.specs.Trace.{Broken, Round, Tale, Trace, opened, told_with, untold}
+use Rattle.dm_attempt.specs.Trace.{Round, Tale, Trace, opened, told_with, wished}
 
 -- the parts of the next round
 abbrev pub next_parts : {D O : Type 0} → Scene D O → Trace → List Part
@@ -61,20 +62,15 @@ abbrev pub tale_of : Address → Told → List ℕ → Tale
 tale_of address told name = record { address = address; key = told.key; total = told.total; name = name; modified = told.modified }
 
 -- the item has the first free form of the wish, and the attempt runs on
-pub record IsNamedBy {D O : Type 0} (tells : Type 0) (clock : D → Clock) (says : O → Says) (far : D → ℕ) (counts : D → DiskKind → ℕ) (scene : Scene D O) (pass : Pass) (present : View D O) (led : List Closed) (count : ℕ) (told : Told) (address : Address) (taken : List (List ℕ)) : Type 0 where
+pub record IsNamedBy {D O : Type 0} (tells : Type 0) (clock : D → Clock) (says : O → Says) (far : D → ℕ) (counts : D → DiskKind → ℕ) (scene : Scene D O) (pass : Pass) (present : View D O) (led lost : List Closed) (count : ℕ) (told : Told) (address : Address) (taken : List (List ℕ)) : Type 0 where
   pub name : List ℕ
   pub free : IsFirstFree told.wish taken name
-  pub live : LiveDesk tells clock says far counts scene pass present (told_with led count (tale_of address told name))
+  pub live : LiveDesk tells clock says far counts scene pass present (told_with led lost count told.wish (tale_of address told name))
 
--- every form of the wish is taken, and the attempt is over
-pub record HasNoName {D O : Type 0} (tells : Type 0) (clock : D → Clock) (says : O → Says) (far : D → ℕ) (counts : D → DiskKind → ℕ) (scene : Scene D O) (old new : View D O) (led : List Closed) (count : ℕ) (told : Told) : Type 0 where
-  pub all : WithNames tells clock old (AreAllTaken told.wish)
-  pub over : DeskOver tells clock says far counts scene new (untold led count) (Broken causes.NamesTaken)
-
-abbrev pub DescribeLeaves : {D O : Type 0} → Type 0 → (D → Clock) → (O → Says) → (D → ℕ) → (D → DiskKind → ℕ) → Scene D O → Pass → View D O → View D O → List Closed → ℕ → Told → Address → Result (Unit {0}) Stop → Type 0
-DescribeLeaves tells clock says far counts scene pass old new led count told address (Ok done) = WithNames tells clock old (IsNamedBy tells clock says far counts scene pass new led count told address)
-DescribeLeaves tells clock says far counts scene pass old new led count told address (Err (stops.Recorded reason)) =
-    (reason ≡ reason_of_cause causes.NamesTaken) × HasNoName tells clock says far counts scene old new led count told
-DescribeLeaves tells clock says far counts scene pass old new led count told address (Err stops.NoMemory) = LiveDesk tells clock says far counts scene pass new (untold led count)
-DescribeLeaves tells clock says far counts scene pass old new led count told address (Err (stops.Fault fault)) = FaultLeaves tells clock says far counts scene new (untold led count) fault
-DescribeLeaves tells clock says far counts scene pass old new led count told address (Err (stops.Broke cause)) = ⊥
+abbrev pub DescribeLeaves : {D O : Type 0} → Type 0 → (D → Clock) → (O → Says) → (D → ℕ) → (D → DiskKind → ℕ) → Scene D O → Pass → View D O → View D O → List Closed → List Closed → ℕ → Told → Address → Result (Unit {0}) Stop → Type 0
+DescribeLeaves tells clock says far counts scene pass old new led lost count told address (Ok done) = WithNames tells clock old (IsNamedBy tells clock says far counts scene pass new led lost count told address)
+DescribeLeaves tells clock says far counts scene pass old new led lost count told address (Err (stops.Recorded reason)) =
+    (reason ≡ reason_of_cause causes.NamesTaken) × RecordedBy tells clock says far counts scene pass new (wished led lost count told.wish) reason
+DescribeLeaves tells clock says far counts scene pass old new led lost count told address (Err stops.NoMemory) = LiveDesk tells clock says far counts scene pass new (wished led lost count told.wish)
+DescribeLeaves tells clock says far counts scene pass old new led lost count told address (Err (stops.Fault fault)) = FaultLeaves tells clock says far counts scene new (wished led lost count told.wish) fault
+DescribeLeaves tells clock says far counts scene pass old new led lost count told address (Err (stops.Broke cause)) = ⊥

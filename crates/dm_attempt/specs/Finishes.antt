@@ -16,9 +16,10 @@ use Rattle.dm_answers.specs.declared.fault.DeskFault.{DeskFault}
 use Rattle.dm_answers.specs.declared.fault.DeskFault.TheVariants as faults
 use Rattle.dm_attempt.specs.declared.stop.Stop.{Stop}
 use Rattle.dm_attempt.specs.declared.stop.Stop.TheVariants as stops
-use Rattle.dm_attempt.specs.Ending.{StopHolds, total_by}
+use Rattle.dm_attempt.specs.Ending.{StopHolds}
 use Rattle.dm_attempt.specs.Live.{DeskOver, LiveDesk}
 use Rattle.dm_attempt.specs.Scene.{Scene, cover_by, told_by}
+use Rattle.dm_attempt.specs.Shows.{total_by}
 use Rattle.dm_attempt.specs.Stops.{stop_by}
 use Rattle.dm_attempt.specs.Trace.{Done, Trace, with_saves}
 

@@ -4,6 +4,7 @@ pub mod Trace
 pub mod Scene
 pub mod Goes
 pub mod Live
+pub mod Shows
 pub mod Stops
 pub mod Ends
 pub mod Ending

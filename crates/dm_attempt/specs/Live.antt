@@ -60,20 +60,6 @@ pub record DeskOver {D O : Type 0} (tells : Type 0) (clock : D → Clock) (says 
   pub goes : DeskGoes tells clock says far counts (IsSpared scene (all_entries scene trace close)) scene.start present (all_entries scene trace close) [] false
   pub planned : IsPlanned scene trace
 
--- The journal failed: of the entries of an attempt that might have gone on and closed so those before some place are recorded, and the next one perhaps failed.
-pub record DeskFell {D O : Type 0} (tells : Type 0) (clock : D → Clock) (says : O → Says) (far : D → ℕ) (counts : D → DiskKind → ℕ) (scene : Scene D O) (present : View D O) (trace : Trace) : Type 0 where
-  pub after : Trace
-  pub led_is : after.led ≡ trace.led
-  pub lost_is : after.lost ≡ trace.lost
-  pub rounds_are : after.rounds ≡ trace.rounds
-  pub close : Close
-  pub recorded : History
-  pub failed : History
-  pub rest : History
-  pub is : all_entries scene after close ≡ (recorded ++ failed) ++ rest
-  pub goes : DeskGoes tells clock says far counts (IsSpared scene recorded) scene.start present recorded failed true
-  pub planned : IsPlanned scene after
-
 -- nothing was landed that isn't saved
 abbrev pub NothingUnsaved : {D O : Type 0} → View D O → Pass → Type 0
 NothingUnsaved present pass = RunsWith present pass.id pass.attempt (λ item life. life.unsaved ≡ 0)

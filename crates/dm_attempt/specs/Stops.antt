@@ -15,8 +15,9 @@ use Rattle.dm_answers.specs.declared.fault.DeskFault.{DeskFault}
 use Rattle.dm_answers.specs.declared.fault.DeskFault.TheVariants as faults
 use Rattle.dm_attempt.specs.declared.stop.Stop.{Stop}
 use Rattle.dm_attempt.specs.declared.stop.Stop.TheVariants as stops
-use Rattle.dm_attempt.specs.Live.{DeskFell, DeskOver, LiveDesk}
+use Rattle.dm_attempt.specs.Live.{DeskOver, LiveDesk}
 use Rattle.dm_attempt.specs.Scene.{Scene}
+use Rattle.dm_attempt.specs.Shows.{DeskFell, NoCause}
 use Rattle.dm_attempt.specs.Trace.{Broken, Round, Trace, opened, with_piece, with_saves}
 
 -- want of memory is to be recorded, and by any other fault the desk has ended the attempt
@@ -34,7 +35,7 @@ abbrev pub FaultLeaves : {D O : Type 0} → Type 0 → (D → Clock) → (O → 
 FaultLeaves tells clock says far counts scene present trace (faults.File kind) =
     Rose (counts scene.start.disk kind) (counts present.disk kind) × ((saves : List (List Slice)) × DeskOver tells clock says far counts scene present (with_saves trace saves) (Broken (causes.File kind)))
 FaultLeaves tells clock says far counts scene present trace (faults.Journal kind) =
-    Rose (counts scene.start.disk kind) (counts present.disk kind) × DeskFell tells clock says far counts scene present trace
+    Rose (counts scene.start.disk kind) (counts present.disk kind) × DeskFell tells clock says far counts scene present trace NoCause
 FaultLeaves tells clock says far counts scene present trace _ = ⊥
 
 -- What a refusal of the desk leaves: where memory was wanting the attempt still runs.

@@ -38,11 +38,12 @@ pub record Tale : Type 0 where
   pub name : List ℕ
   pub modified : List ℕ
 
--- What an attempt did behind its beginning: the connections that led to the content; those that belong to no round; what was told; how many parts a
--- round plans; the rounds, the newest first; what was saved, the oldest first.
+-- What an attempt did behind its beginning: the connections that led to the content; those that belong to no round; the wish for a name that the first reply
+-- gave; what was told; how many parts a round plans; the rounds, the newest first; what was saved, the oldest first.
 pub record Trace : Type 0 where
   pub led : List Closed
   pub lost : List Closed
+  pub wish : Option (List ℕ)
   pub told : Option Tale
   pub count : ℕ
   pub rounds : List Round
@@ -92,11 +93,15 @@ abbrev pub so_far : ItemId → Trace → List Entry
 so_far id trace = told_entries id trace.told ++ map (entries.Progress id) trace.saves
 
 -- nothing was told yet, and this will be
-abbrev pub untold : List Closed → ℕ → Trace
-untold led count = record { led = led; lost = []; told = None; count = count; rounds = []; saves = [] }
+abbrev pub untold : List Closed → List Closed → ℕ → Trace
+untold led lost count = record { led = led; lost = lost; wish = None; told = None; count = count; rounds = []; saves = [] }
 
-abbrev pub told_with : List Closed → ℕ → Tale → Trace
-told_with led count tale = record { led = led; lost = []; told = Some tale; count = count; rounds = []; saves = [] }
+-- there is a wish for a name, and no name yet
+abbrev pub wished : List Closed → List Closed → ℕ → List ℕ → Trace
+wished led lost count wish = record (untold led lost count) { wish = Some wish }
+
+abbrev pub told_with : List Closed → List Closed → ℕ → List ℕ → Tale → Trace
+told_with led lost count wish tale = record (wished led lost count wish) { told = Some tale }
 
 -- one round more
 abbrev pub opened : Trace → Round → Trace

@@ -2,7 +2,7 @@ use Rattle.std.proofs.Common.{sym, subst}
 use Rattle.dm_store.specs.Origin.{said_of}
 use Rattle.dm_attempt.specs.declared.ended.Ended.TheVariants as ended
 use Rattle.dm_attempt.specs.declared.stop.Stop.{Stop}
-use Rattle.dm_attempt.specs.Ending.{EndsBy}
+use Rattle.dm_attempt.specs.Ending.{EndsBy, IsCauseOf}
 use Rattle.dm_attempt.proofs.Closes.{fault_ends, recorded_ends}
 use Rattle.dm_attempt.proofs.ending.end.Goals as goal
 
@@ -10,7 +10,8 @@ pub returns-in-Fault : goal.returns-in-Fault
 returns-in-Fault g c = record {
   goes = λ scene trace holds. let D = g.S.D.Disk in
       let leaves = rw c.in-Fault.is at holds in
-      fault_ends D.tells D.history (λ o. said_of (g.S.O.Origin.says o)) D.far D.faults scene c.args.pass.now (g.S.Desk.view c.args.desk.now) trace c.in-Fault.fault leaves;
+      fault_ends D.tells D.history (λ o. said_of (g.S.O.Origin.says o)) D.far D.faults scene c.args.pass.now (g.S.Desk.view c.args.desk.now) trace
+      (λ cause. IsCauseOf D.tells D.history (λ o. said_of (g.S.O.Origin.says o)) D.far D.faults scene c.args.pass.now trace c.args.stop cause) c.in-Fault.fault leaves;
 }
 
 pub returns-in-Recorded : goal.returns-in-Recorded
@@ -27,4 +28,12 @@ returns-in-Broke g c = record {
       let live = rw c.in-Broke.is at holds in
       subst (λ (s : Stop). EndsBy D.tells D.history (λ o. said_of (g.S.O.Origin.says o)) D.far D.faults scene c.args.pass.now (g.S.Desk.view c.end_by.new.desk) trace s c.end_by.result) (sym c.in-Broke.is)
       (c.end_by.ensures.goes scene trace live);
+}
+
+pub returns-in-NoMemory : goal.returns-in-NoMemory
+returns-in-NoMemory g c = record {
+  goes = λ scene trace holds. let D = g.S.D.Disk in
+      let live = rw c.in-NoMemory.is at holds in
+      subst (λ (s : Stop). EndsBy D.tells D.history (λ o. said_of (g.S.O.Origin.says o)) D.far D.faults scene c.args.pass.now (g.S.Desk.view c.wanting.new.desk) trace s c.wanting.result) (sym c.in-NoMemory.is)
+      (c.wanting.ensures.goes scene trace live);
 }

@@ -1,4 +1,4 @@
-use Rattle.std.proofs.Common.{refl}
+use Rattle.std.proofs.Common.{◌≡◌, inl, inr, refl}
 use Rattle.dm_store.specs.Origin.{said_of}
 use Rattle.dm_types.specs.Name.{IsPart}
 use Rattle.dm_disk_model.proofs.Beside.{besides_same}
@@ -27,5 +27,5 @@ returns-in-Err g c = record {
       let view = g.S.Desk.view in
       let old = view c.args.desk.now in
       let new = view c.broke.new.self in
-      broke_fault D.tells D.history (λ o. said_of (g.S.O.Origin.says o)) D.far D.faults scene c.args.pass.now old new (record { keeps = c.broke.ensures.keeps; near = c.broke.ensures.far; later = c.broke.ensures.cause.later; beside = λ t. besides_same IsPart (D.history old.disk) (D.history new.disk) (c.broke.ensures.beside t) }) trace live c.args.cause.now c.in-Err.fault c.in-Err.ensures.answers c.in-Err.ensures.cause.cause;
+      broke_fault D.tells D.history (λ o. said_of (g.S.O.Origin.says o)) D.far D.faults scene c.args.pass.now old new (record { keeps = c.broke.ensures.keeps; near = c.broke.ensures.far; later = c.broke.ensures.cause.later; beside = λ t. besides_same IsPart (D.history old.disk) (D.history new.disk) (c.broke.ensures.beside t) }) trace live c.args.cause.now (λ cause. cause ≡ c.args.cause.now) (inr (inl refl)) c.in-Err.fault c.in-Err.ensures.answers c.in-Err.ensures.cause.cause;
 }
