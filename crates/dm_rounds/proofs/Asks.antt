@@ -99,14 +99,18 @@ new_turn tells made_for told origin there asking source pass part shares lane as
         open_end = λ unbounded. absurd (false≢true (sym unbounded ∙ new.bounded_is));
         given = new.given;
         unbroken = new.unbroken;
+        whole = λ bounded wanted. absurd (let e = sym new.wanted_is ∙ wanted in cc);
         reads = λ t. let given = (heard t).given in record { head = given.head; has = given.has; tag = given.tag; tag_is = given.tag_is; key_is = asks.key_is ∙ given.key_is };
       };
       asks = record {
-        wanted_is = inr (subst (λ (p : Part). (asking.served ≡ false) ⊎ (p.index ≢ 0)) (sym new.part_is) asks.own, record { of = source; source_is = asks.source_is; asked_is = new.wanted_is ∙ ap (range_of source) (sym new.part_is) });
-        first_is = ap first_of new.wanted_is ∙ sym first;
-        purpose_is = λ t. (heard t).purpose_is ∙ sym asks.purpose_is;
-        sent_is = λ t. (heard t).sent_is ∙ ap (λ (w : Wanted). request_of source.address (ask_of w)) (sym new.wanted_is)
-            ∙ ap (λ (p : Purpose). request_of p.address (ask_of lane.reader.wanted)) (sym (heard t).purpose_is);
+        asked = record {
+          wanted_is = inr (subst (λ (p : Part). (asking.served ≡ false) ⊎ (p.index ≢ 0)) (sym new.part_is) asks.own, record { of = source; source_is = asks.source_is; asked_is = new.wanted_is ∙ ap (range_of source) (sym new.part_is) });
+          first_is = ap first_of new.wanted_is ∙ sym first;
+          purpose_is = λ t. (heard t).purpose_is ∙ sym asks.purpose_is;
+          sent_is = λ t. (heard t).sent_is ∙ ap (λ (w : Wanted). request_of source.address (ask_of w)) (sym new.wanted_is)
+              ∙ ap (λ (p : Purpose). request_of p.address (ask_of lane.reader.wanted)) (sym (heard t).purpose_is);
+        };
+        bounded_is = new.bounded_is ∙ sym asks.known_is;
       };
       origin_is = same;
     }

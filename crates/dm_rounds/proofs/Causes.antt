@@ -1,12 +1,19 @@
 -- How an attempt stops by the causes of a content.
-use Rattle.std.proofs.Common.{◌≡◌, ◌<◌, ◌≤◌, ℕ, Bool, true, false, Option, Some, None, IsTrue, refl, sym, ◌∙◌, ap, arith}
+use Rattle.std.proofs.Common.{◌≡◌, ◌≢◌, ◌<◌, ◌≤◌, ℕ, List, Bool, true, false, Option, Some, None, IsTrue, refl, sym, ◌∙◌, ap, arith}
 use Rattle.std.specs.Prelude.{IfSome}
 use Rattle.std.proofs.lemmas.Bool.{false≢true}
 use Rattle.std.proofs.lemmas.Option.{IfSome_then}
-use Rattle.dm_types.specs.Faults.{Rose}
+use Rattle.std.specs.List.{Contains}
+use Rattle.dm_types.specs.Faults.{NoneFell, Rose}
 use Rattle.dm_policy.specs.declared.cause.Cause.{Cause}
 use Rattle.dm_policy.specs.declared.cause.Cause.TheVariants as causes
+use Rattle.dm_ask.proofs.Talking.{rose_since}
+use Rattle.dm_ask.specs.Causes.{net_kind_of}
+use Rattle.dm_edge.specs.declared.fault.NetFault.{NetFault}
+use Rattle.dm_edge.specs.declared.fault.NetFault.TheVariants as faults
 use Rattle.dm_edge.specs.declared.fault.WireFault.{WireFault}
+use Rattle.dm_edge.specs.declared.fault.WireFault.TheVariants as wires
+use Rattle.dm_edge.specs.Faults.{net_count_of}
 use Rattle.dm_edge.specs.Causes.{is_content_cause}
 use Rattle.dm_reply.specs.Faults.{cause_kind}
 use Rattle.dm_answers.specs.Broke.{IsMet}
@@ -14,7 +21,7 @@ use Rattle.dm_attempt.specs.declared.stop.Stop.{Stop}
 use Rattle.dm_attempt.specs.declared.stop.Stop.TheVariants as stops
 use Rattle.dm_attempt.specs.Ending.{IfBroke, IsOfDesk}
 use Rattle.dm_rounds.specs.declared.lane.Lane.{Lane}
-use Rattle.dm_rounds.specs.Lanes.{ShownOn, stop_met}
+use Rattle.dm_rounds.specs.Lanes.{IsOfContent, NetCounts, ShownOn, SomeShows, is_reading_cause, stop_met}
 
 -- want of memory is apart from every other cause
 pub by_cause : (P : Cause → Stop → Type 0) → P causes.Memory stops.NoMemory → ((cause : Cause) → P cause (stops.Broke cause)) → (cause : Cause) → P cause (stop_met cause)
@@ -68,3 +75,87 @@ desk_shown counts lane (stops.Broke cause) apart = absurd apart
 desk_shown counts lane stops.NoMemory apart = tt
 desk_shown counts lane (stops.Fault fault) apart = tt
 desk_shown counts lane (stops.Recorded reason) apart = tt
+
+-- what holds of each cause that ends a reading
+pub by_reading : (P : Cause → Type 0) → P causes.NetFailed → P causes.NetTimeout → ((have : ℕ) (wanted : Option ℕ) → P (causes.ContentShort have wanted)) → P causes.BadFraming → ((total : ℕ) → P (causes.TooLarge total)) → (cause : Cause)
+    → IsTrue (is_reading_cause cause) → P cause
+by_reading P failed late short bad large causes.NetFailed is = failed
+by_reading P failed late short bad large causes.NetTimeout is = late
+by_reading P failed late short bad large (causes.ContentShort have wanted) is = short have wanted
+by_reading P failed late short bad large causes.BadFraming is = bad
+by_reading P failed late short bad large (causes.TooLarge total) is = large total
+by_reading P failed late short bad large causes.Memory is = absurd (false≢true is)
+by_reading P failed late short bad large (causes.File kind) is = absurd (false≢true is)
+by_reading P failed late short bad large causes.NamesTaken is = absurd (false≢true is)
+by_reading P failed late short bad large causes.BothStand is = absurd (false≢true is)
+by_reading P failed late short bad large (causes.PartShort have wanted) is = absurd (false≢true is)
+by_reading P failed late short bad large (causes.DigestDiffers have wanted) is = absurd (false≢true is)
+by_reading P failed late short bad large causes.HeadCut is = absurd (false≢true is)
+by_reading P failed late short bad large causes.NetNoRoute is = absurd (false≢true is)
+by_reading P failed late short bad large causes.NetRefused is = absurd (false≢true is)
+by_reading P failed late short bad large causes.BadLocation is = absurd (false≢true is)
+by_reading P failed late short bad large causes.TooManyRedirects is = absurd (false≢true is)
+by_reading P failed late short bad large (causes.Status status) is = absurd (false≢true is)
+by_reading P failed late short bad large causes.BadHead is = absurd (false≢true is)
+by_reading P failed late short bad large causes.Encoded is = absurd (false≢true is)
+by_reading P failed late short bad large (causes.RangeRefused status) is = absurd (false≢true is)
+by_reading P failed late short bad large causes.Cancel is = absurd (false≢true is)
+by_reading P failed late short bad large causes.Shutdown is = absurd (false≢true is)
+by_reading P failed late short bad large causes.Crash is = absurd (false≢true is)
+
+pub content_own : (cause : Cause) → IsTrue (is_content_cause cause) → IsOfContent (stop_met cause)
+content_own causes.NetFailed is = refl
+content_own causes.NetTimeout is = refl
+content_own (causes.ContentShort have wanted) is = refl
+content_own causes.BadFraming is = refl
+content_own (causes.TooLarge total) is = refl
+content_own causes.Memory is = tt
+content_own (causes.File kind) is = absurd (false≢true is)
+content_own causes.NamesTaken is = absurd (false≢true is)
+content_own causes.BothStand is = absurd (false≢true is)
+content_own (causes.PartShort have wanted) is = absurd (false≢true is)
+content_own (causes.DigestDiffers have wanted) is = absurd (false≢true is)
+content_own causes.HeadCut is = absurd (false≢true is)
+content_own causes.NetNoRoute is = absurd (false≢true is)
+content_own causes.NetRefused is = absurd (false≢true is)
+content_own causes.BadLocation is = absurd (false≢true is)
+content_own causes.TooManyRedirects is = absurd (false≢true is)
+content_own (causes.Status status) is = absurd (false≢true is)
+content_own causes.BadHead is = absurd (false≢true is)
+content_own causes.Encoded is = absurd (false≢true is)
+content_own (causes.RangeRefused status) is = absurd (false≢true is)
+content_own causes.Cancel is = absurd (false≢true is)
+content_own causes.Shutdown is = absurd (false≢true is)
+content_own causes.Crash is = absurd (false≢true is)
+
+pub desk_own : (stop : Stop) → IsOfDesk stop → IsOfContent stop
+desk_own (stops.Broke cause) apart = absurd apart
+desk_own stops.NoMemory apart = tt
+desk_own (stops.Fault fault) apart = tt
+desk_own (stops.Recorded reason) apart = tt
+
+-- the net counts a fault of a wire where the lanes' wires go back
+pub net_counts : {W : Type 0} (counts : W → WireFault → ℕ) (lanes : List (Lane W)) (before between after : NetFault → ℕ) (stop : Stop) → IsOfContent stop → SomeShows counts lanes stop
+    → ((lane : Lane W) → Contains lanes lane → (kind : WireFault) → 0 < counts lane.wire kind → Rose (between (net_count_of kind)) (after (net_count_of kind)))
+    → NoneFell before between → NetCounts before after stop
+net_counts counts lanes before between after (stops.Broke cause) own shows counted later = (
+  λ e. false≢true (ap is_reading_cause (sym e) ∙ own),
+  by_reading (λ (c : Cause). IfSome (cause_kind c) (λ kind. 0 < counts shows.lane.wire kind) → IfSome (net_kind_of c) (λ kind. Rose (before kind) (after kind)))
+      (λ some. rose_since (before faults.Failed) (between faults.Failed) (after faults.Failed) (later faults.Failed) (counted shows.lane shows.among wires.Failed some))
+      (λ some. rose_since (before faults.Timeout) (between faults.Timeout) (after faults.Timeout) (later faults.Timeout) (counted shows.lane shows.among wires.Timeout some))
+      (λ have wanted none. tt) (λ none. tt) (λ total none. tt) cause own shows.shown,
+)
+net_counts counts lanes before between after stops.NoMemory own shows counted later = tt
+net_counts counts lanes before between after (stops.Fault fault) own shows counted later = tt
+net_counts counts lanes before between after (stops.Recorded reason) own shows counted later = tt
+
+-- a count that rose meanwhile rose over a longer time
+pub rose_longer : (a b c d : ℕ) → a ≤ b → c ≤ d → Rose b c → Rose a d
+rose_longer a b c d earlier later rose = omega (arith, earlier, later, rose)
+
+pub counts_longer : (a b c d : NetFault → ℕ) (stop : Stop) → NoneFell a b → NoneFell c d → NetCounts b c stop → NetCounts a d stop
+counts_longer a b c d (stops.Broke cause) earlier later counted =
+    (counted.0, IfSome_then (net_kind_of cause) counted.1 (λ kind rose. let e = earlier kind in let l = later kind in rose_longer (a kind) (b kind) (c kind) (d kind) e l rose))
+counts_longer a b c d stops.NoMemory earlier later counted = tt
+counts_longer a b c d (stops.Fault fault) earlier later counted = tt
+counts_longer a b c d (stops.Recorded reason) earlier later counted = tt

@@ -3,15 +3,19 @@ use Rattle.std.proofs.Common.{◌≡◌, ◌⊎◌, inl, inr, ◌<◌, ◌≤◌
 use Rattle.std.specs.Prelude.{slice_get}
 use Rattle.std.specs.List.{AllByRecursion, Contains}
 use Rattle.std.proofs.lemmas.Bool.Decides.{eqb_tells}
-use Rattle.std.proofs.lemmas.List.{map-append}
+use Rattle.std.proofs.lemmas.List.{get_or-map, length-map, map-append}
+use Rattle.std.proofs.lemmas.List.Elements.{Contains-append_right}
 use Rattle.std.proofs.lemmas.Option.{slice_get_within, get_or_from_slice_get}
 use Rattle.dm_edge.specs.Wire.{Purpose, Told, Closed, closed_of}
 use Rattle.dm_attempt.specs.Asking.{Asking}
+use Rattle.dm_attempt.specs.Ending.{IfBroke}
+use Rattle.dm_attempt.specs.declared.stop.Stop.{Stop}
+use Rattle.dm_attempt.specs.declared.stop.Stop.TheVariants as stops
 use Rattle.dm_edge.specs.Reply.{IsWhole}
 use Rattle.dm_attempt.specs.Trace.{Carried}
 use Rattle.dm_rounds.specs.declared.lane.Lane.{Lane}
 use Rattle.dm_attempt.specs.Shares.{Share, total}
-use Rattle.dm_rounds.specs.Lanes.{Brought, IsLeft, IsRead, InRound, IsWholeRound, IsCarried, IsCutRound, Closes, LaneAsks, closed_lanes, is_at, is_of}
+use Rattle.dm_rounds.specs.Lanes.{Brought, IsLeft, IsRead, InRound, IsWholeRound, IsCarried, IsCutRound, Closes, LaneAsks, SomeBroke, StopSays, closed_lanes, is_at, is_of}
 use Rattle.dm_rounds.proofs.Totals.{total_append, weaker_each, append_each}
 
 -- one of the connections has the number
@@ -47,6 +51,7 @@ whole_round {W} net tells made_for told asking start now shares lanes none round
       wires = round.wires;
       closed = round.closed;
       once = once;
+      all = round.each;
       each = λ n share at.
           let found = find (IsRead net asking shares) round.wires n (omega (arith, once n (slice_get_within shares n share at))) round.each in
           let same : found.holds.share ≡ share = same_share shares n found.holds.share share (subst (λ (m : ℕ). slice_get shares m ≡ Some found.holds.share) found.number found.holds.share_is) at in
@@ -79,7 +84,7 @@ module _ {W : Type 0} (net tells : Type 0) (by : net → tells) (made_for : W �
   unfolding carried_of
   carried_each [] left for = tt
   carried_each (lane ∷ lanes) left for =
-      (record { share = left.0.share; share_is = left.0.share_is; asked = record { wanted_is = for.0.wanted_is; first_is = for.0.first_is; purpose_is = λ n. for.0.purpose_is (by n); sent_is = λ n. for.0.sent_is (by n) }; brought = λ n. left.0.brought (by n) }, carried_each lanes left.1 for.1)
+      (record { share = left.0.share; share_is = left.0.share_is; asked = record { wanted_is = for.0.asked.wanted_is; first_is = for.0.asked.first_is; purpose_is = λ n. for.0.asked.purpose_is (by n); sent_is = λ n. for.0.asked.sent_is (by n) }; brought = λ n. left.0.brought (by n) }, carried_each lanes left.1 for.1)
 
   pub cut_round : (start now after : List Closed) (lanes : List (Lane W)) → AllByRecursion (IsLeft tells told shares) lanes → (net → Closes made_for told now after lanes)
       → InRound net tells made_for told asking start now shares lanes → IsCutRound net asking start after shares
@@ -96,3 +101,21 @@ module _ {W : Type 0} (net tells : Type 0) (by : net → tells) (made_for : W �
             (weaker_each (IsRead net asking shares) (IsCarried net asking shares) (λ c is. record { share = is.share; share_is = is.share_is; asked = is.asked; brought = is.brought }) round.wires round.each)
             (carried_each lanes left round.asks);
       }
+
+  contains_map : (lanes : List (Lane W)) (lane : Lane W) → Contains lanes lane → Contains (map carried_of lanes) (carried_of lane)
+  contains_map lanes lane (k, within, at) = (k, omega (arith, within, length-map lanes carried_of), get_or-map carried_of lanes k lane (carried_of lane) within ∙ ap carried_of at)
+
+  -- the stream of one of the closed connections shows why the round stopped
+  pub cut_shown : (start now after : List Closed) (lanes : List (Lane W)) (left : AllByRecursion (IsLeft tells told shares) lanes) (closes : net → Closes made_for told now after lanes)
+      (round : InRound net tells made_for told asking start now shares lanes) (stop : Stop) → StopSays told shares lanes stop → IfBroke stop (SomeBroke (cut_round start now after lanes left closes round).wires shares)
+  unfolding carried_of cut_round
+  cut_shown start now after lanes left closes round (stops.Broke cause) says = record {
+    c = carried_of says.lane;
+    among = Contains-append_right round.wires (map carried_of lanes) (carried_of says.lane) (contains_map lanes says.lane says.among);
+    share = says.stops.share;
+    share_is = says.stops.share_is;
+    is = says.stops.is;
+  }
+  cut_shown start now after lanes left closes round stops.NoMemory says = tt
+  cut_shown start now after lanes left closes round (stops.Fault fault) says = tt
+  cut_shown start now after lanes left closes round (stops.Recorded reason) says = tt

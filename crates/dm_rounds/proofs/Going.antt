@@ -15,6 +15,7 @@ use Rattle.dm_edge.specs.Fair.{IsHonest}
 use Rattle.dm_edge.specs.Reply.{ContentBroke}
 use Rattle.dm_edge.specs.Wire.{Purpose, Told, stream_of}
 use Rattle.dm_reply.specs.declared.got.Got.TheVariants.{Bytes, End}
+use Rattle.dm_reply.specs.Content.{EndsAll}
 use Rattle.dm_slice.specs.declared.plan.Part.{Part}
 use Rattle.dm_item.specs.Listing.{item_in}
 use Rattle.dm_kept.specs.Files.{Says}
@@ -36,7 +37,7 @@ use Rattle.dm_attempt.proofs.Sharing.{grows}
 use Rattle.dm_rounds.specs.declared.lane.Lane.{Lane}
 use Rattle.dm_rounds.specs.declared.lane.Turn.{Turn}
 use Rattle.dm_rounds.specs.declared.lane.Turn.TheVariants.{Whole}
-use Rattle.dm_rounds.specs.Lanes.{HasGiven, IsLeft, LaneBroke, LaneStops, PieceMoves, PieceSays, TurnIs, TurnSays, most_given, stop_met}
+use Rattle.dm_rounds.specs.Lanes.{HasGiven, IsLeft, LaneBroke, LaneStops, PieceMoves, PieceSays, TurnIs, TurnSays, most_given, stop_met, told_count}
 use Rattle.dm_rounds.specs.Reading.{HasRound, IsTurn, MayTurn, TurnGoes, TurnLeaves, TurnStops, live_round}
 use Rattle.dm_rounds.proofs.Causes.{by_cause}
 use Rattle.dm_rounds.proofs.Saying.{said_piece}
@@ -60,7 +61,7 @@ module _ {D O W : Type 0} (tells : Type 0) (clock : D → Clock) (says : O → S
       ∙ ap (λ (i : Item). i.last_address) item_same ∙ placed) in
       let origin_is : origin new.wire ≡ desk.origin = same ∙ turn.origin_is ∙ sym has.live.goes.went.origin in
       let asks : IsAsked wires asking old.part old.reader.wanted (made_for old.wire) (told new.wire).sent =
-      record { wanted_is = turn.asks.wanted_is; first_is = turn.asks.first_is; purpose_is = turn.asks.purpose_is; sent_is = λ t. sent t ∙ turn.asks.sent_is t } in
+      record { wanted_is = turn.asks.asked.wanted_is; first_is = turn.asks.asked.first_is; purpose_is = turn.asks.asked.purpose_is; sent_is = λ t. sent t ∙ turn.asks.asked.sent_is t } in
       let said = said_piece wires (original (origin new.wire)) (made_for old.wire) (told new.wire) asking old.part old.reader.wanted new.reader turn.ready.left.share.bytes piece old.at
       (subst (λ (p : Purpose). IsHonest wires (original (origin new.wire)) p (told new.wire)) stays honest) asks given has.keyed.reads turn.ready.at k byte here in
       subst (λ (o : O). said_of (original o) address key (old.at + k) byte) origin_is
@@ -73,17 +74,17 @@ module _ {D O W : Type 0} (tells : Type 0) (clock : D → Clock) (says : O → S
     round = opened older (live_round asking cover shares)
 
     -- the piece was landed
-    pub turn_landed : (n room : ℕ) (buffer : List ℕ) (moves : PieceMoves old new (Ok (Bytes n)) room) (within : n ≤ length buffer) → most_given new.reader ≡ most_given old.reader → new.bounded ≡ old.bounded
+    pub turn_landed : (n room : ℕ) (buffer : List ℕ) (moves : PieceMoves old new (Ok (Bytes n)) room) (within : n ≤ length buffer) → most_given new.reader ≡ most_given old.reader → told_count new.reader ≡ told_count old.reader → new.bounded ≡ old.bounded
         → (wires → (bytes : List ℕ) → HasGiven asking.key (made_for old.wire) old.reader.wanted (told old.wire).given old.reader bytes → PieceSays asking.key made_for told old new (Ok (Bytes n)) buffer bytes)
         → LandLeaves tells clock says far counts scene going.pass desk older (live_round asking cover shares) new.part.index (take n buffer) (Ok tt) → (is : Turn) → TurnIs new is
         → TurnLeaves tells clock says far counts wires made_for told scene going desk older asking cover shares new (Ok is)
-    turn_landed n room buffer moves within limit bounded piece_says leaves is turn_is = record {
+    turn_landed n room buffer moves within limit counted bounded piece_says leaves is turn_is = record {
       saves = leaves.0;
       after = added shares new.part.index (take n buffer);
       live = leaves.1;
       grows = grows shares new.part.index (take n buffer);
       is = subst (λ (p : Part). TurnSays wires made_for told asking.key (added shares p.index (take n buffer)) new is) (sym part)
-          (landed_says wires made_for told asking.key shares old new turn.ready part wanted stays n room buffer moves within limit bounded piece_says is turn_is);
+          (landed_says wires made_for told asking.key shares old new turn.ready part wanted stays n room buffer moves within limit counted bounded piece_says is turn_is);
     }
 
     refused_holds : (trace : Trace) (stop : Stop) → Refused tells clock says far counts scene going.pass desk trace stop → StopHolds tells clock says far counts scene going.pass desk trace stop
@@ -112,15 +113,15 @@ module _ {D O W : Type 0} (tells : Type 0) (clock : D → Clock) (says : O → S
 
     module _ (live : LiveDesk tells clock says far counts scene going.pass desk (opened older (live_round asking cover shares))) where
       -- the content came to its end
-      pub turn_ended : (buffer : List ℕ)
+      pub turn_ended : EndsAll old.reader (Ok End) → told_count new.reader ≡ told_count old.reader → new.bounded ≡ old.bounded → (buffer : List ℕ)
           → (wires → (bytes : List ℕ) → HasGiven asking.key (made_for old.wire) old.reader.wanted (told old.wire).given old.reader bytes → PieceSays asking.key made_for told old new (Ok End) buffer bytes)
           → TurnLeaves tells clock says far counts wires made_for told scene going desk older asking cover shares new (Ok Whole)
-      turn_ended buffer piece_says = record {
+      turn_ended all counted bounded buffer piece_says = record {
         saves = older.saves;
         after = shares;
         live = live;
         grows = record { keeps = refl; others = λ j other. refl };
-        is = end_full wires made_for told asking.key shares old new turn.ready part wanted stays buffer piece_says;
+        is = end_full wires made_for told asking.key shares old new turn.ready part wanted stays all bounded buffer piece_says;
       }
 
       -- a cause ended it

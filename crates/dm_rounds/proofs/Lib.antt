@@ -10,3 +10,9 @@ pub mod Asks
 pub mod Opens
 pub mod Lost
 pub mod Nexts
+pub mod Wired
+pub mod Trails
+pub mod Losing
+pub mod Onward
+pub mod Begins
+pub mod Firsts

@@ -206,5 +206,8 @@ module _ {W O : Type 0} (net wires : Type 0) (by : net → wires) (made_for : W 
         earlier = stopped.later;
         later = later;
         between = between;
+        rest = closed_lanes made_for told lanes;
+        behind = closes;
+        counted = stopped.counted;
         lost = stopped.lost;
       }

@@ -19,7 +19,7 @@ use Rattle.dm_rounds.specs.declared.lane.Lane.{Lane}
 use Rattle.dm_rounds.specs.declared.lane.Turn.TheVariants.{More, Whole}
 use Rattle.dm_rounds.specs.Lanes.{IsLeft, IsReady, LaneAsks, Closes}
 use Rattle.dm_rounds.specs.Reading.{IsReading, IsTurn, MayRead, MayTurn, ReadLeaves, ReadStops, ReadsOn, RoundGoes, RoundLeaves, RoundStops, TurnGoes, TurnStops, closed_before}
-use Rattle.dm_rounds.proofs.Ends.{cut_round, whole_round}
+use Rattle.dm_rounds.proofs.Ends.{cut_round, cut_shown, whole_round}
 use Rattle.dm_rounds.proofs.Rounds.{few_rest, few_set, known_at, ready_at, ready_rest, ready_set, round_close, round_set, stop_set}
 use Rattle.dm_rounds.proofs.Totals.{at_each, remove_each, set_each, weaker_each}
 
@@ -45,7 +45,7 @@ module _ {D O W : Type 0} (tells : Type 0) (clock : D → Clock) (says : O → S
     pub may_turn : MayTurn tells clock says far counts wires made_for told origin going before was
     may_turn = record { scene = scene; older = older; asking = asking; cover = cover; shares = shares; round = reading.has; turn = turn_at }
 
-    module _ (lane : Lane W) (part : lane.part ≡ was.part) (wanted : lane.reader.wanted ≡ was.reader.wanted) (stays : made_for lane.wire ≡ made_for was.wire) (same : origin lane.wire ≡ origin was.wire)
+    module _ (lane : Lane W) (part : lane.part ≡ was.part) (bounded : lane.bounded ≡ was.bounded) (wanted : lane.reader.wanted ≡ was.reader.wanted) (stays : made_for lane.wire ≡ made_for was.wire) (same : origin lane.wire ≡ origin was.wire)
         (sent : wires → (told lane.wire).sent ≡ (told was.wire).sent) (desk : View D O) where
       own_grows : (after : List Share) → Grows lane.part.index shares after → Grows was.part.index shares after
       own_grows after grows = subst (λ (p : Part). Grows p.index shares after) part grows
@@ -70,7 +70,7 @@ module _ {D O W : Type 0} (tells : Type 0) (clock : D → Clock) (says : O → S
               ready = ready_set lanes k was lane within at part wires made_for told asking.key shares goes.after grows reading.few reading.ready goes.is;
               origins = own_set;
               few = few_set lanes k was lane within at part reading.few;
-              round = round_set lanes k was lane within at part net wires made_for told asking (closed_before scene older) closed shares goes.after grows known wanted stays sent reading.round;
+              round = round_set lanes k was lane within at part net wires made_for told asking (closed_before scene older) closed shares goes.after grows known bounded wanted stays sent reading.round;
             };
           }
 
@@ -90,7 +90,7 @@ module _ {D O W : Type 0} (tells : Type 0) (clock : D → Clock) (says : O → S
               origins = remove_each Own (set lanes k lane) k own_set;
               few = few_rest lanes k was lane within at part reading.few;
               round = round_close net wires by made_for told asking (closed_before scene older) closed after goes.after (set lanes k lane) k lane long (sym (get_or-set_same lanes k lane lane within)) goes.is closes
-                  (round_set lanes k was lane within at part net wires made_for told asking (closed_before scene older) closed shares goes.after grows known wanted stays sent reading.round);
+                  (round_set lanes k was lane within at part net wires made_for told asking (closed_before scene older) closed shares goes.after grows known bounded wanted stays sent reading.round);
             };
           }
 
@@ -105,7 +105,7 @@ module _ {D O W : Type 0} (tells : Type 0) (clock : D → Clock) (says : O → S
             keeps = refl;
             holds = stops.holds;
             left = set_each (IsLeft wires told shares) lanes k lane stops.left (weaker_each (IsReady wires made_for told asking.key shares) (IsLeft wires told shares) (λ l ready. ready.left) lanes reading.ready);
-            round = round_set lanes k was lane within at part net wires made_for told asking (closed_before scene older) closed shares shares still known wanted stays sent reading.round;
+            round = round_set lanes k was lane within at part net wires made_for told asking (closed_before scene older) closed shares shares still known bounded wanted stays sent reading.round;
             stops = λ t. stop_set lanes k was lane within at part told shares stop (stops.stops t);
           }
 
@@ -144,4 +144,5 @@ module _ {D O W : Type 0} (tells : Type 0) (clock : D → Clock) (says : O → S
     keeps = stops.keeps;
     holds = stops.holds;
     round = cut_round net wires by made_for told asking stops.after (closed_before scene older) closed after lanes stops.left closes stops.round;
+    shown = λ n. cut_shown net wires by made_for told asking stops.after (closed_before scene older) closed after lanes stops.left closes stops.round stop (stops.stops (by n));
   }

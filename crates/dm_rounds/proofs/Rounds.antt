@@ -1,10 +1,11 @@
 -- What a turn leaves of a round.
-use Rattle.std.proofs.Common.{◌≡◌, ◌⊎◌, inl, inr, ◌<◌, ◌≤◌, ◌==◌, ℕ, ◌+◌, ◌-◌, cond, List, [], ◌∷◌, ◌++◌, length, get_or, set, map, refl, sym, ◌∙◌, ap, subst, arith, append_assoc}
+use Rattle.std.proofs.Common.{◌≡◌, ◌⊎◌, inl, inr, ◌<◌, ◌≤◌, ◌==◌, ℕ, ◌+◌, ◌-◌, cond, true, List, [], ◌∷◌, ◌++◌, length, get_or, set, map, refl, sym, ◌∙◌, ap, subst, arith, append_assoc}
 use Rattle.std.specs.List.{AllByRecursion, remove}
 use Rattle.std.proofs.lemmas.List.{map-append, length-set, get_or-set_same}
 use Rattle.std.proofs.lemmas.Option.{slice_get_within}
 use Rattle.dm_edge.specs.Wire.{Purpose, Told, Closed, closed_of, stream_of}
 use Rattle.dm_edge.specs.declared.wanted.Wanted.{Wanted}
+use Rattle.dm_edge.specs.declared.wanted.Wanted.TheVariants.{Whole}
 use Rattle.dm_attempt.specs.Asking.{Asking, IsAsked}
 use Rattle.dm_edge.specs.Reply.{IsWhole}
 use Rattle.dm_slice.specs.declared.plan.Part.{Part}
@@ -40,6 +41,7 @@ ready_other tells made_for told key k old new grows lane none ready = record {
   open_end = ready.open_end;
   given = ready.given;
   unbroken = ready.unbroken;
+  whole = ready.whole;
   reads = ready.reads;
 }
 
@@ -50,6 +52,7 @@ read_other net asking k old new grows c none is = record {
   asked = is.asked;
   brought = is.brought;
   whole = is.whole;
+  alone = is.alone;
 }
 
 -- the lane at a place
@@ -118,22 +121,22 @@ module _ {W : Type 0} (lanes : List (Lane W)) (k : ℕ) (was lane : Lane W) (wit
     ready_rest all = rest_each (is_at was.part.index) (IsReady tells made_for told key old) (IsReady tells made_for told key new) (ready_other tells made_for told key was.part.index old new grows) lanes k lane was within (few was.part.index) own all
 
   -- it asked for the same
-  pub asks_same : (tells : Type 0) (made_for : W → Purpose) (told : W → Told) (asking : Asking) → lane.reader.wanted ≡ was.reader.wanted → made_for lane.wire ≡ made_for was.wire
+  pub asks_same : (tells : Type 0) (made_for : W → Purpose) (told : W → Told) (asking : Asking) → lane.bounded ≡ was.bounded → lane.reader.wanted ≡ was.reader.wanted → made_for lane.wire ≡ made_for was.wire
       → (tells → (told lane.wire).sent ≡ (told was.wire).sent) → LaneAsks tells made_for told asking was → LaneAsks tells made_for told asking lane
-  asks_same tells made_for told asking wanted stays sent asks =
+  asks_same tells made_for told asking bounded wanted stays sent asks =
       let parted : IsAsked tells asking lane.part was.reader.wanted (made_for was.wire) (told was.wire).sent =
-      subst (λ (p : Part). IsAsked tells asking p was.reader.wanted (made_for was.wire) (told was.wire).sent) (sym part) asks in
+      subst (λ (p : Part). IsAsked tells asking p was.reader.wanted (made_for was.wire) (told was.wire).sent) (sym part) asks.asked in
       let wants : IsAsked tells asking lane.part lane.reader.wanted (made_for was.wire) (told was.wire).sent =
       subst (λ (w : Wanted). IsAsked tells asking lane.part w (made_for was.wire) (told was.wire).sent) (sym wanted) parted in
       let made : IsAsked tells asking lane.part lane.reader.wanted (made_for lane.wire) (told was.wire).sent =
       subst (λ (p : Purpose). IsAsked tells asking lane.part lane.reader.wanted p (told was.wire).sent) (sym stays) wants in
-      record { wanted_is = made.wanted_is; first_is = made.first_is; purpose_is = made.purpose_is; sent_is = λ n. sent n ∙ made.sent_is n }
+      record { asked = record { wanted_is = made.wanted_is; first_is = made.first_is; purpose_is = made.purpose_is; sent_is = λ n. sent n ∙ made.sent_is n }; bounded_is = bounded ∙ asks.bounded_is }
 
   -- the wires of the round stay, and the lane has the piece more
   pub round_set : (net tells : Type 0) → (made_for : W → Purpose) (told : W → Told) (asking : Asking) (start now : List Closed) (old new : List Share) → Grows was.part.index old new
-      → was.part.index < length old → lane.reader.wanted ≡ was.reader.wanted → made_for lane.wire ≡ made_for was.wire → (tells → (told lane.wire).sent ≡ (told was.wire).sent)
+      → was.part.index < length old → lane.bounded ≡ was.bounded → lane.reader.wanted ≡ was.reader.wanted → made_for lane.wire ≡ made_for was.wire → (tells → (told lane.wire).sent ≡ (told was.wire).sent)
       → InRound net tells made_for told asking start now old lanes → InRound net tells made_for told asking start now new (set lanes k lane)
-  round_set net tells made_for told asking start now old new grows known wanted stays sent round =
+  round_set net tells made_for told asking start now old new grows known bounded wanted stays sent round =
       let long = keeps_length old new grows.keeps in
       let some = total_at (is_at was.part.index) lanes k was within in
       let none : total (is_of was.part.index) round.wires ≡ 0 = omega (arith, round.once was.part.index known, some, own) in
@@ -142,7 +145,7 @@ module _ {W : Type 0} (lanes : List (Lane W)) (k : ℕ) (was lane : Lane W) (wit
         wires = round.wires;
         closed = round.closed;
         each = none_each (is_of was.part.index) (IsRead net asking old) (IsRead net asking new) (read_other net asking was.part.index old new grows) round.wires none round.each;
-        asks = set_each Asks lanes k lane (asks_same tells made_for told asking wanted stays sent (subst Asks (sym at) (at_each Asks lanes k was within round.asks))) round.asks;
+        asks = set_each Asks lanes k lane (asks_same tells made_for told asking bounded wanted stays sent (subst Asks (sym at) (at_each Asks lanes k was within round.asks))) round.asks;
         once = λ n short. omega (arith, round.once n (omega (arith, short, long)), once_set n);
       }
 
@@ -152,6 +155,9 @@ module _ {W : Type 0} (net tells : Type 0) (by : net → tells) (told : W → To
     | inl all ↦ inl (subst (λ (p : Part). p.first + length full.left.share.bytes ≡ p.end) (sym full.left.part_is) all)
     | inr ended ↦ inr (λ n. ended (by n))
   ]
+
+  pub alone_by : lane.bounded ≡ true → lane.reader.wanted ≡ Whole → full.left.share.part.first + length full.left.share.bytes ≡ full.left.share.part.end
+  alone_by known whole = subst (λ (p : Part). p.first + length full.left.share.bytes ≡ p.end) (sym full.left.part_is) (full.alone known whole)
 
 -- a lane is done, and its wire goes back
 pub round_close : {W : Type 0} (net : Type 0) (tells : Type 0) (by : net → tells) (made_for : W → Purpose) (told : W → Told) (asking : Asking) (start now after : List Closed) (shares : List Share) (lanes : List (Lane W)) (k : ℕ) (lane : Lane W)
@@ -169,9 +175,10 @@ round_close {W} net tells by made_for told asking start now after shares lanes k
       each = push_each (IsRead net asking shares) round.wires own round.each (record {
         share = full.left.share;
         share_is = full.left.share_is;
-        asked = let a = subst Asks (sym at) (at_each Asks lanes k lane within round.asks) in record { wanted_is = a.wanted_is; first_is = a.first_is; purpose_is = λ n. a.purpose_is (by n); sent_is = λ n. a.sent_is (by n) };
+        asked = let a = (subst Asks (sym at) (at_each Asks lanes k lane within round.asks)).asked in record { wanted_is = a.wanted_is; first_is = a.first_is; purpose_is = λ n. a.purpose_is (by n); sent_is = λ n. a.sent_is (by n) };
         brought = λ n. full.left.brought (by n);
         whole = whole_by net tells by told shares lane full;
+        alone = λ wanted known. alone_by net tells by told shares lane full ((subst Asks (sym at) (at_each Asks lanes k lane within round.asks)).bounded_is ∙ known) wanted;
       });
       asks = remove_each Asks lanes k round.asks;
       once = λ n short. omega (arith, round.once n short, total_append (is_of n) round.wires (own ∷ []), total_remove (is_at n) lanes k lane within, ap (is_at n) at);

@@ -1,24 +1,25 @@
 -- What a turn of a lane leaves.
-use Rattle.std.proofs.Common.{◌≡◌, ◌⊎◌, inl, inr, ◌<◌, ◌≤◌, ℕ, ◌+◌, List, [], ◌++◌, false, length, take, Option, None, Some, Ok, Err, refl, sym, ◌∙◌, ap, subst, arith, length-append}
-use Rattle.std.specs.Prelude.{slice_get}
+use Rattle.std.proofs.Common.{◌≡◌, ◌⊎◌, inl, inr, ◌<◌, ◌≤◌, ℕ, ◌+◌, List, [], ◌++◌, true, false, length, take, Option, None, Some, Ok, Err, refl, sym, ◌∙◌, ap, subst, arith, length-append}
+use Rattle.std.specs.Prelude.{IfSome, slice_get}
 use Rattle.std.proofs.lemmas.List.{append-nil, length-take-le}
 use Rattle.httparse.specs.Grammar.{ResponseHead}
 use Rattle.dm_policy.specs.declared.cause.Cause.{Cause}
 use Rattle.dm_edge.specs.declared.wanted.Wanted.{Wanted}
+use Rattle.dm_edge.specs.declared.wanted.Wanted.TheVariants.{Whole}
 use Rattle.dm_types.specs.declared.item.Key.{Key}
 use Rattle.dm_edge.specs.Wire.{Purpose, Told, stream_of}
 use Rattle.dm_edge.specs.Reply.{IsWhole, ContentBroke}
 use Rattle.dm_reply.specs.declared.got.Got.TheVariants.{Bytes, End}
 use Rattle.dm_reply.specs.declared.body.Body.{Body}
 use Rattle.dm_reply.specs.declared.body.Body.TheVariants as body
-use Rattle.dm_reply.specs.Content.{Reader, HasRead, counted_of}
+use Rattle.dm_reply.specs.Content.{EndsAll, Reader, HasRead, counted_of, first_some}
 use Rattle.dm_reply.specs.Steps.{least_of, most_of}
 use Rattle.dm_slice.specs.declared.plan.Part.{Part}
 use Rattle.dm_rounds.specs.declared.lane.Lane.{Lane}
 use Rattle.dm_rounds.specs.declared.lane.Turn.{Turn}
-use Rattle.dm_rounds.specs.declared.lane.Turn.TheVariants.{More, Whole}
+use Rattle.dm_rounds.specs.declared.lane.Turn.TheVariants as turns
 use Rattle.dm_attempt.specs.Shares.{Share, IsNext, added}
-use Rattle.dm_rounds.specs.Lanes.{Brought, read, broke, GoesOn, HasGiven, LaneBroke, IsLeft, IsReady, IsFull, PieceMoves, PieceSays, TurnIs, TurnSays, most_by, most_given}
+use Rattle.dm_rounds.specs.Lanes.{Brought, read, broke, GoesOn, HasGiven, LaneBroke, IsLeft, IsReady, IsFull, PieceMoves, PieceSays, TurnIs, TurnSays, most_by, most_given, told_count}
 use Rattle.dm_attempt.proofs.Sharing.{added_at}
 
 -- the most of a body by what it tells
@@ -37,6 +38,9 @@ piece_fits lane room n (inl more) at fits few most = let f = fits more in omega 
 piece_fits lane room n (inr ended) at fits few most =
     let m : lane.reader.reading.given + n ≤ most_given lane.reader = subst (λ (m : ℕ). lane.reader.reading.given + n ≤ least_of lane.reader.size m) (most_told lane.reader.reading.body) most in
     omega (arith, m, ended.1, at)
+
+pub count_same : (old new : Reader) → new.size ≡ old.size → counted_of new.reading.body ≡ counted_of old.reading.body → told_count new ≡ told_count old
+count_same old new size counted = ap (λ (s : Option ℕ). first_some s (counted_of new.reading.body)) size ∙ ap (λ (c : Option ℕ). first_some old.size c) counted
 
 module _ {W : Type 0} (tells : Type 0) (made_for : W → Purpose) (told : W → Told) (key : Key) (shares : List Share) (old new : Lane W) (ready : IsReady tells made_for told key shares old) (part : new.part ≡ old.part) (wanted : new.reader.wanted ≡ old.reader.wanted)
     (stays : made_for new.wire ≡ made_for old.wire) where
@@ -78,10 +82,19 @@ module _ {W : Type 0} (tells : Type 0) (made_for : W → Purpose) (told : W → 
     is = subst (λ (w : Wanted). ContentBroke w (stream_of (told new.wire)) ready.left.share.bytes cause) (sym wanted) (says t ready.left.share.bytes (ready.reads t));
   }
 
-  pub end_full : (buffer : List ℕ)
+  -- of a whole reply of known length all was given
+  all_given : EndsAll old.reader (Ok End) → new.bounded ≡ old.bounded → new.bounded ≡ true → new.reader.wanted ≡ Whole → new.part.first + length ready.left.share.bytes ≡ new.part.end
+  all_given all bounded known whole =
+      let tells = ready.whole (sym bounded ∙ known) (sym wanted ∙ whole) in
+      let count : old.reader.reading.given ≡ tells.count = subst (λ (n : Option ℕ). IfSome n (λ m. old.reader.reading.given ≡ m)) tells.told all in
+      let first_is = ap (λ (p : Part). p.first) part in
+      let end_is = ap (λ (p : Part). p.end) part in
+      omega (arith, count, tells.within, first_is, end_is, ready.at, ready.given, ready.within)
+
+  pub end_full : EndsAll old.reader (Ok End) → new.bounded ≡ old.bounded → (buffer : List ℕ)
       → (tells → (bytes : List ℕ) → HasGiven key (made_for old.wire) old.reader.wanted (told old.wire).given old.reader bytes → PieceSays key made_for told old new (Ok End) buffer bytes)
       → IsFull tells told shares new
-  end_full buffer says =
+  end_full all bounded buffer says =
       let bytes = ready.left.share.bytes in
       record {
         left = record {
@@ -91,6 +104,7 @@ module _ {W : Type 0} (tells : Type 0) (made_for : W → Purpose) (told : W → 
           brought = λ t. brought_by bytes [] (subst (λ (b : List ℕ). HasGiven key (made_for old.wire) old.reader.wanted (told new.wire).given new.reader b) (sym (append-nil bytes)) (says t bytes (ready.reads t)).1);
         };
         whole = inr (λ t. subst (λ (w : Wanted). IsWhole w (stream_of (told new.wire)) bytes) (sym wanted) (says t bytes (ready.reads t)).0);
+        alone = all_given all bounded;
       }
 
   module _ (n room : ℕ) (buffer : List ℕ) (moves : PieceMoves old new (Ok (Bytes n)) room) (within : n ≤ length buffer) where
@@ -108,7 +122,7 @@ module _ {W : Type 0} (tells : Type 0) (made_for : W → Purpose) (told : W → 
           fits = omega (arith, long, moves.2, moves.3);
         }
 
-    module _ (limit : most_given new.reader ≡ most_given old.reader) (bounded : new.bounded ≡ old.bounded)
+    module _ (limit : most_given new.reader ≡ most_given old.reader) (counted : told_count new.reader ≡ told_count old.reader) (bounded : new.bounded ≡ old.bounded)
         (says : tells → (bytes : List ℕ) → HasGiven key (made_for old.wire) old.reader.wanted (told old.wire).given old.reader bytes → PieceSays key made_for told old new (Ok (Bytes n)) buffer bytes) where
       abbrev pub landed_left : IsLeft tells told (added shares old.part.index (take n buffer)) new
       landed_left = record {
@@ -140,7 +154,7 @@ module _ {W : Type 0} (tells : Type 0) (made_for : W → Purpose) (told : W → 
       on_by (inr is) = inr (is, ends is)
 
       pub landed_says : (turn : Turn) → TurnIs new turn → TurnSays tells made_for told key (added shares old.part.index (take n buffer)) new turn
-      landed_says More is = record {
+      landed_says turns.More is = record {
         left = landed_left;
         at = at_is;
         within = moves.3;
@@ -148,7 +162,8 @@ module _ {W : Type 0} (tells : Type 0) (made_for : W → Purpose) (told : W → 
         open_end = ends;
         given = omega (arith, moves.4, ready.given, long);
         unbroken = moves.5;
+        whole = λ known whole. let tells = ready.whole (sym bounded ∙ known) (sym wanted ∙ whole) in record { count = tells.count; told = counted ∙ tells.told; within = omega (arith, tells.within, first_is, end_is) };
         reads = λ t. subst (λ (p : Purpose). HasGiven key p new.reader.wanted (told new.wire).given new.reader (ready.left.share.bytes ++ take n buffer)) (sym stays)
             (subst (λ (w : Wanted). HasGiven key (made_for old.wire) w (told new.wire).given new.reader (ready.left.share.bytes ++ take n buffer)) (sym wanted) (says t ready.left.share.bytes (ready.reads t)));
       }
-      landed_says Whole is = record { left = landed_left; whole = inl (sym at_is ∙ is) }
+      landed_says turns.Whole is = record { left = landed_left; whole = inl (sym at_is ∙ is); alone = λ known whole. sym at_is ∙ is }

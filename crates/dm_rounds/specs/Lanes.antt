@@ -1,5 +1,5 @@
 -- A lane, and a round of lanes.
-use Rattle.std.specs.Prelude.{◌≡◌, ◌⊎◌, ◌<◌, ◌≤◌, ◌==◌, ℕ, ◌+◌, ◌-◌, Bool, true, false, cond, nat_lt, List, [], ◌∷◌, ◌++◌, length, map, take, slice_get, Option, Some, None, Result, Ok, Err, IfSome}
+use Rattle.std.specs.Prelude.{◌≡◌, ◌≢◌, ◌⊎◌, ◌<◌, ◌≤◌, ◌==◌, ℕ, ◌+◌, ◌-◌, Bool, true, false, cond, nat_lt, List, [], ◌∷◌, ◌++◌, length, map, take, slice_get, Option, Some, None, Result, Ok, Err, IfSome, IsTrue}
 use Rattle.std.specs.List.{AllByRecursion, Contains}
 use Rattle.httparse.specs.Grammar.{ResponseHead}
 use Rattle.dm_types.specs.Faults.{Rose}
@@ -9,26 +9,29 @@ use Rattle.dm_policy.specs.declared.cause.Cause.TheVariants as causes
 use Rattle.dm_edge.specs.declared.fault.NetFault.{NetFault}
 use Rattle.dm_edge.specs.declared.fault.WireFault.{WireFault}
 use Rattle.dm_edge.specs.declared.wanted.Wanted.{Wanted}
+use Rattle.dm_edge.specs.declared.wanted.Wanted.TheVariants.{Whole}
 use Rattle.dm_edge.specs.Begins.{most_content}
 use Rattle.dm_edge.specs.Fair.{key_of}
 use Rattle.dm_edge.specs.Fields.{fields_of}
 use Rattle.dm_edge.specs.Metadata.{IsStrongTag}
 use Rattle.dm_edge.specs.Reply.{IsWhole, ContentBroke}
 use Rattle.dm_edge.specs.Wire.{Purpose, Told, Closed, closed_of, stream_of}
+use Rattle.dm_ask.specs.Causes.{net_kind_of}
 use Rattle.dm_reply.specs.declared.got.Got.{Got}
 use Rattle.dm_reply.specs.declared.got.Got.TheVariants.{Bytes, End}
-use Rattle.dm_reply.specs.Content.{Reader, HasRead, counted_of}
+use Rattle.dm_reply.specs.Content.{Reader, HasRead, counted_of, first_some}
 use Rattle.dm_reply.specs.Faults.{cause_kind}
 use Rattle.dm_reply.specs.Steps.{least_of}
 use Rattle.dm_slice.specs.declared.plan.Part.{Part}
 use Rattle.dm_attempt.specs.declared.stop.Stop.{Stop}
 use Rattle.dm_attempt.specs.declared.stop.Stop.TheVariants as stops
 use Rattle.dm_attempt.specs.Asking.{Asking, IsAsked}
+use Rattle.dm_attempt.specs.Ending.{IfBroke}
 use Rattle.dm_attempt.specs.Shares.{Share, total}
 use Rattle.dm_attempt.specs.Trace.{Carried}
 use Rattle.dm_rounds.specs.declared.lane.Lane.{Lane}
 use Rattle.dm_rounds.specs.declared.lane.Turn.{Turn}
-use Rattle.dm_rounds.specs.declared.lane.Turn.TheVariants.{More, Whole}
+use Rattle.dm_rounds.specs.declared.lane.Turn.TheVariants as turns
 
 -- the stream has content that begins with these bytes, or it broke behind them
 pub data Brought (wanted : Wanted) (stream bytes : List ℕ) : Type 0 where
@@ -63,6 +66,16 @@ pub record HasGiven (key : Key) (purpose : Purpose) (wanted : Wanted) (given : L
   pub tag_is : IsStrongTag (fields_of head) tag
   pub key_is : key ≡ key_of purpose tag
 
+-- how many bytes a reader is to give, where it is told
+abbrev pub told_count : Reader → Option ℕ
+told_count reader = first_some reader.size (counted_of reader.reading.body)
+
+-- it is told, and the part ends within so many
+pub record TellsEnd {W : Type 0} (lane : Lane W) : Type 0 where
+  pub count : ℕ
+  pub told : told_count lane.reader ≡ Some count
+  pub within : lane.part.end ≤ lane.part.first + count
+
 -- what was landed of a lane's part is all that it gave, and more is to come
 pub record IsReady {W : Type 0} (tells : Type 0) (made_for : W → Purpose) (told : W → Told) (key : Key) (shares : List Share) (lane : Lane W) : Type 0 where
   pub left : IsLeft tells told shares lane
@@ -72,12 +85,14 @@ pub record IsReady {W : Type 0} (tells : Type 0) (made_for : W → Purpose) (tol
   pub open_end : lane.bounded ≡ false → lane.part.first + most_given lane.reader ≤ lane.part.end
   pub given : lane.reader.reading.given ≡ length left.share.bytes
   pub unbroken : lane.reader.reading.broke ≡ None
+  pub whole : lane.bounded ≡ true → lane.reader.wanted ≡ Whole → TellsEnd lane
   pub reads : tells → HasGiven key (made_for lane.wire) lane.reader.wanted (told lane.wire).given lane.reader left.share.bytes
 
--- all of the part was landed, or all that the stream has
+-- All of the part was landed, or all that the stream has. Of a part of known end that a whole reply brings all was landed.
 pub record IsFull {W : Type 0} (tells : Type 0) (told : W → Told) (shares : List Share) (lane : Lane W) : Type 0 where
   pub left : IsLeft tells told shares lane
   pub whole : (lane.part.first + length left.share.bytes ≡ lane.part.end) ⊎ (tells → IsWhole lane.reader.wanted (stream_of (told lane.wire)) left.share.bytes)
+  pub alone : lane.bounded ≡ true → lane.reader.wanted ≡ Whole → lane.part.first + length left.share.bytes ≡ lane.part.end
 
 -- what an answer does to a lane's place and reader
 abbrev pub PieceMoves : {W : Type 0} → Lane W → Lane W → Result Got Cause → ℕ → Type 0
@@ -94,16 +109,16 @@ PieceSays key made_for told old new (Err cause) buffer bytes = ContentBroke old.
 
 -- a lane is at its part's end just where its end is known and reached
 abbrev pub TurnIs : {W : Type 0} → Lane W → Turn → Type 0
-TurnIs lane More = (lane.at < lane.part.end) ⊎ (lane.bounded ≡ false)
-TurnIs lane Whole = lane.at ≡ lane.part.end
+TurnIs lane turns.More = (lane.at < lane.part.end) ⊎ (lane.bounded ≡ false)
+TurnIs lane turns.Whole = lane.at ≡ lane.part.end
 
 abbrev pub TurnSays : {W : Type 0} → Type 0 → (W → Purpose) → (W → Told) → Key → List Share → Lane W → Turn → Type 0
-TurnSays tells made_for told key shares lane More = IsReady tells made_for told key shares lane
-TurnSays tells made_for told key shares lane Whole = IsFull tells told shares lane
+TurnSays tells made_for told key shares lane turns.More = IsReady tells made_for told key shares lane
+TurnSays tells made_for told key shares lane turns.Whole = IsFull tells told shares lane
 
 abbrev pub TurnMoves : {W : Type 0} → Lane W → Lane W → Result Turn Stop → Type 0
-TurnMoves old new (Ok More) = (old.at < new.at) × (new.at ≤ new.part.end)
-TurnMoves old new (Ok Whole) = Unit {0}
+TurnMoves old new (Ok turns.More) = (old.at < new.at) × (new.at ≤ new.part.end)
+TurnMoves old new (Ok turns.Whole) = Unit {0}
 TurnMoves old new (Err stop) = Unit {0}
 
 -- a lane's stream has this cause behind what was landed of its part
@@ -142,21 +157,23 @@ pub record SomeShows {W : Type 0} (counts : W → WireFault → ℕ) (lanes : Li
   pub among : Contains lanes lane
   pub shown : ShownOn counts lane stop
 
--- a connection asked for its part
-abbrev pub LaneAsks : {W : Type 0} → Type 0 → (W → Purpose) → (W → Told) → Asking → Lane W → Type 0
-LaneAsks tells made_for told asking lane = IsAsked tells asking lane.part lane.reader.wanted (made_for lane.wire) (told lane.wire).sent
+-- a connection asked for its part, whose end is known just where the content's length is
+pub record LaneAsks {W : Type 0} (tells : Type 0) (made_for : W → Purpose) (told : W → Told) (asking : Asking) (lane : Lane W) : Type 0 where
+  pub asked : IsAsked tells asking lane.part lane.reader.wanted (made_for lane.wire) (told lane.wire).sent
+  pub bounded_is : lane.bounded ≡ asking.known
 
 -- a closed connection asked for its part
 abbrev pub WasAsked : Type 0 → Asking → Carried → Type 0
 WasAsked net asking c = IsAsked net asking c.part c.wanted c.connection.purpose c.connection.sent
 
--- its part was landed whole from it
+-- Its part was landed whole from it: to its end, or to the stream's. To the part's end where a whole reply of known length brought it.
 pub record IsRead (net : Type 0) (asking : Asking) (shares : List Share) (c : Carried) : Type 0 where
   pub share : Share
   pub share_is : slice_get shares c.part.index ≡ Some share
   pub asked : WasAsked net asking c
   pub brought : net → Brought c.wanted c.connection.stream share.bytes
   pub whole : (share.part.first + length share.bytes ≡ share.part.end) ⊎ (net → IsWhole c.wanted c.connection.stream share.bytes)
+  pub alone : c.wanted ≡ Whole → asking.known ≡ true → share.part.first + length share.bytes ≡ share.part.end
 
 -- 1 where the lane's part has this number
 abbrev pub is_at : {W : Type 0} → ℕ → Lane W → ℕ
@@ -198,6 +215,7 @@ pub record IsWholeRound (net : Type 0) (asking : Asking) (start now : List Close
   pub wires : List Carried
   pub closed : net → now ≡ start ++ map (λ (c : Carried). c.connection) wires
   pub once : (n : ℕ) → n < length shares → total (is_of n) wires ≡ 1
+  pub all : AllByRecursion (IsRead net asking shares) wires
   pub each : (n : ℕ) (share : Share) → slice_get shares n ≡ Some share → IsBroughtBy net asking wires n share
 
 -- its part was landed from it as far as it was landed
@@ -213,3 +231,28 @@ pub record IsCutRound (net : Type 0) (asking : Asking) (start now : List Closed)
   pub closed : net → now ≡ start ++ map (λ (c : Carried). c.connection) wires
   pub once : (n : ℕ) → n < length shares → total (is_of n) wires ≡ 1
   pub each : AllByRecursion (IsCarried net asking shares) wires
+
+-- one of the connections has this cause behind what was landed of its part
+pub record SomeBroke (wires : List Carried) (shares : List Share) (cause : Cause) : Type 0 where
+  pub c : Carried
+  pub among : Contains wires c
+  pub share : Share
+  pub share_is : slice_get shares c.part.index ≡ Some share
+  pub is : ContentBroke c.wanted c.connection.stream share.bytes cause
+
+-- A cause that is to be recorded isn't want of memory, and where it is a fault of the net or of a wire, the net counted it meanwhile.
+abbrev pub NetCounts : (NetFault → ℕ) → (NetFault → ℕ) → Stop → Type 0
+NetCounts before after stop = IfBroke stop (λ cause. (cause ≢ causes.Memory) × IfSome (net_kind_of cause) (λ kind. Rose (before kind) (after kind)))
+
+-- the causes that end the reading of a content, but for want of memory
+abbrev pub is_reading_cause : Cause → Bool
+is_reading_cause causes.NetFailed = true
+is_reading_cause causes.NetTimeout = true
+is_reading_cause (causes.ContentShort have told) = true
+is_reading_cause causes.BadFraming = true
+is_reading_cause (causes.TooLarge total) = true
+is_reading_cause _ = false
+
+-- a cause that is to be recorded is one of these
+abbrev pub IsOfContent : Stop → Type 0
+IsOfContent stop = IfBroke stop (λ cause. IsTrue (is_reading_cause cause))

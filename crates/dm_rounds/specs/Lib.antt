@@ -5,3 +5,7 @@ pub mod Parts
 pub mod Opening
 pub mod Opened
 pub mod Rounding
+pub mod Trail
+pub mod Running
+pub mod First
+pub mod Beginning

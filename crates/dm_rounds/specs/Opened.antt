@@ -15,7 +15,7 @@ use Rattle.dm_attempt.specs.Asking.{Asking, WantedBy}
 use Rattle.dm_attempt.specs.Shares.{Share, total}
 use Rattle.dm_attempt.specs.Trace.{Carried}
 use Rattle.dm_rounds.specs.declared.lane.Lane.{Lane}
-use Rattle.dm_rounds.specs.Lanes.{Brought, InRound, IsReady, is_at, is_of}
+use Rattle.dm_rounds.specs.Lanes.{Brought, InRound, IsReady, NetCounts, is_at, is_of}
 use Rattle.dm_rounds.specs.Opening.{IsAskedAt}
 use Rattle.dm_rounds.specs.Parts.{StopsAsking}
 
@@ -58,4 +58,7 @@ pub record LosesRound (net : Type 0) (asking : Asking) (source : Source) (pass :
   pub earlier : NoneFell before since
   pub later : NoneFell until after
   pub between : List Closed
+  pub rest : List Closed
+  pub behind : net → now ≡ between ++ rest
+  pub counted : NetCounts since until stop
   pub lost : net → StopsAsking source pass (part_of slice) since until start between stop

@@ -14,7 +14,7 @@ use Rattle.dm_attempt.specs.Asking.{Asking}
 use Rattle.dm_attempt.specs.Ends.{empty_share}
 use Rattle.dm_attempt.specs.Shares.{Share, total}
 use Rattle.dm_rounds.specs.declared.lane.Lane.{Lane}
-use Rattle.dm_rounds.specs.Lanes.{is_at}
+use Rattle.dm_rounds.specs.Lanes.{NetCounts, is_at}
 use Rattle.dm_rounds.specs.Parts.{AsksOf, StopsAsking}
 use Rattle.dm_rounds.specs.Reading.{IsTurn}
 
@@ -47,4 +47,5 @@ pub record StopsOpening {W O : Type 0} (net wires : Type 0) (made_for : W → Pu
   pub lanes_are : HasLanes wires made_for told origin there asking shares number lanes
   pub since : NetFault → ℕ
   pub later : NoneFell before since
+  pub counted : NetCounts since after stop
   pub lost : net → StopsAsking source pass (part_of slice) since after start closed stop

@@ -47,6 +47,7 @@ pub record AsksOf (asking : Asking) (source : Source) (pass : Pass) (part : Part
   pub key_is : asking.key ≡ Strong source.tag
   pub purpose_is : asking.purpose ≡ purpose_of pass.id pass.attempt source.address
   pub own : (asking.served ≡ false) ⊎ (part.index ≢ 0)
+  pub known_is : asking.known ≡ true
 
 -- no desk brought it about
 abbrev pub IsOfNet : Stop → Type 0

@@ -1,5 +1,5 @@
 -- The reading of a round, and what a turn leaves of it.
-use Rattle.std.specs.Prelude.{◌≡◌, ◌≤◌, ℕ, ◌+◌, List, [], ◌∷◌, ◌++◌, length, Some, Result, Ok, Err}
+use Rattle.std.specs.Prelude.{◌≡◌, ◌≤◌, ℕ, ◌+◌, List, [], ◌∷◌, ◌++◌, length, Some, is_some, Result, Ok, Err}
 use Rattle.std.specs.List.{AllByRecursion}
 use Rattle.dm_types.specs.declared.item.Item.{Item}
 use Rattle.dm_types.specs.declared.kinds.DiskKind.{DiskKind}
@@ -7,35 +7,41 @@ use Rattle.dm_types.specs.declared.slices.Slice.{Slice}
 use Rattle.dm_disk_model.specs.Disk.{History as Clock}
 use Rattle.dm_edge.specs.Wire.{Purpose, Told, Closed}
 use Rattle.dm_request.specs.Fault.{IsRead}
+use Rattle.dm_ask.specs.Redirects.{purpose_of}
 use Rattle.dm_kept.specs.Files.{Says}
+use Rattle.dm_store.specs.declared.pass.Pass.{Pass}
 use Rattle.dm_store.specs.View.{View}
 use Rattle.dm_attempt.specs.declared.stop.Going.{Going}
 use Rattle.dm_attempt.specs.declared.stop.Stop.{Stop}
-use Rattle.dm_attempt.specs.Asking.{Asking}
-use Rattle.dm_attempt.specs.Ending.{StopHolds}
+use Rattle.dm_attempt.specs.Asking.{Asking, source_by}
+use Rattle.dm_attempt.specs.Ending.{IfBroke, StopHolds}
 use Rattle.dm_attempt.specs.Live.{LiveDesk}
 use Rattle.dm_attempt.specs.Scene.{Scene, told_by}
 use Rattle.dm_attempt.specs.Shares.{Grows, Keeps, Share, total}
 use Rattle.dm_attempt.specs.Trace.{Round, Trace, connections_of, opened, with_saves}
 use Rattle.dm_rounds.specs.declared.lane.Lane.{Lane}
 use Rattle.dm_rounds.specs.declared.lane.Turn.{Turn}
-use Rattle.dm_rounds.specs.Lanes.{InRound, IsCutRound, IsLeft, IsReady, IsWholeRound, LaneAsks, LaneStops, StopSays, TurnSays, is_at}
+use Rattle.dm_rounds.specs.Lanes.{InRound, IsCutRound, IsLeft, IsReady, IsWholeRound, LaneAsks, LaneStops, SomeBroke, StopSays, TurnSays, is_at}
 
 -- the live round: how it asks, the cover that it began with, and what was landed of its parts
 abbrev pub live_round : Asking → List Slice → List Share → Round
 live_round asking cover shares = record { asking = asking; cover = cover; shares = shares; wires = [] }
 
--- the content stands under the item's key and last address, and the address is read of its own text
-pub record IsKeyed (asking : Asking) (item : Item) : Type 0 where
+-- The content stands under the item's key and last address, which is read of its own text. The round is this attempt's, its length is known just where the item's
+-- is, and it asks for ranges just where the item has a strong tag and a total.
+pub record IsKeyed (pass : Pass) (asking : Asking) (item : Item) : Type 0 where
   pub key_is : item.key ≡ Some asking.key
   pub address_is : item.last_address ≡ Some asking.purpose.address.text
   pub reads : IsRead asking.purpose.address.text asking.purpose.address
+  pub purpose_is : asking.purpose ≡ purpose_of pass.id pass.attempt asking.purpose.address
+  pub source_is : asking.source ≡ source_by asking.purpose.address asking.key item.total
+  pub known_is : asking.known ≡ is_some item.total
 
 -- the attempt runs, and its live round has these shares
 pub record HasRound {D O : Type 0} (tells : Type 0) (clock : D → Clock) (says : O → Says) (far : D → ℕ) (counts : D → DiskKind → ℕ) (scene : Scene D O) (going : Going) (desk : View D O) (older : Trace) (asking : Asking) (cover : List Slice) (shares : List Share) : Type 0 where
   pub live : LiveDesk tells clock says far counts scene going.pass desk (opened older (live_round asking cover shares))
   pub turn_is : going.round ≡ length older.rounds + 1
-  pub keyed : IsKeyed asking (told_by scene older.told)
+  pub keyed : IsKeyed going.pass asking (told_by scene older.told)
 
 -- a lane of that round may be read on
 pub record IsTurn {W O : Type 0} (wires : Type 0) (made_for : W → Purpose) (told : W → Told) (origin : W → O) (at : O) (asking : Asking) (shares : List Share) (lane : Lane W) : Type 0 where
@@ -133,6 +139,7 @@ pub record RoundStops {D O : Type 0} (tells : Type 0) (clock : D → Clock) (say
   pub keeps : Keeps shares after
   pub holds : StopHolds tells clock says far counts scene going.pass desk (opened (with_saves older saves) (live_round asking cover after)) stop
   pub round : IsCutRound net asking (closed_before scene older) closed after
+  pub shown : net → IfBroke stop (SomeBroke round.wires after)
 
 abbrev pub RoundLeaves : {D O : Type 0} → Type 0 → (D → Clock) → (O → Says) → (D → ℕ) → (D → DiskKind → ℕ) → Type 0 → Scene D O → Going → View D O → List Closed → Trace → Asking → List Slice → List Share → Result (Unit {0}) Stop → Type 0
 RoundLeaves tells clock says far counts net scene going desk closed older asking cover shares (Ok done) = RoundGoes tells clock says far counts net scene going desk closed older asking cover shares

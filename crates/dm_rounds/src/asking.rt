@@ -5,6 +5,7 @@ ghost use Rattle.dm_attempt.specs.Asking.{Asking};
 ghost use Rattle.dm_attempt.specs.Ending.{IfBroke};
 ghost use Rattle.dm_attempt.specs.Ends.{empty_share};
 ghost use Rattle.dm_attempt.specs.Shares.{Share};
+ghost use Rattle.dm_rounds.specs.Lanes.{NetCounts};
 ghost use Rattle.dm_rounds.specs.Parts.{AsksOf, IsHeardLane, IsNewLane, IsOfNet, StopsAsking};
 ghost use Rattle.dm_rounds.specs.Reading.{IsTurn};
 
@@ -32,6 +33,7 @@ pub fn ask_part<N: Net>(
     ensures heard { N.W.tells → IfOk result (IsHeardLane N.W.purpose N.W.told source.now pass.now part.now) }
     ensures closed { N.tells → OnOk result (N.closed net.new ≡ N.closed net.old) }
     ensures stopped { N.tells → IfErr result (StopsAsking source.now pass.now part.now (N.faults net.old) (N.faults net.new) (N.closed net.old) (N.closed net.new)) }
+    ensures counted { IfErr result (NetCounts (N.faults net.old) (N.faults net.new)) }
     ensures met { IfErr result (λ stop. IfBroke stop IsMet) }
     ensures own { IfErr result IsOfNet }
     ensures origin { IfOk result (λ lane. N.W.origin lane.wire ≡ N.origin_of net.old) }

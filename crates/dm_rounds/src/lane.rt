@@ -2,6 +2,7 @@ ghost use Rattle.std.specs.Prelude.{◌≡◌, ◌<◌, ◌≤◌, ◌+◌, ℕ,
 ghost use Rattle.dm_types.specs.declared.item.Key.{Key};
 ghost use Rattle.dm_types.specs.declared.slices.Slice.{Slice};
 ghost use Rattle.dm_edge.specs.Causes.{is_content_cause};
+ghost use Rattle.dm_reply.specs.Content.{EndsAll};
 ghost use Rattle.dm_reply.specs.Faults.{cause_kind};
 ghost use Rattle.dm_store.specs.Origin.{said_of};
 ghost use Rattle.dm_answers.specs.Broke.{IsMet};
@@ -10,7 +11,7 @@ ghost use Rattle.dm_attempt.specs.Ending.{IfBroke};
 ghost use Rattle.dm_attempt.specs.Scene.{Scene};
 ghost use Rattle.dm_attempt.specs.Shares.{Share};
 ghost use Rattle.dm_attempt.specs.Trace.{Trace};
-ghost use Rattle.dm_rounds.specs.Lanes.{GoesOn, HasGiven, PieceMoves, PieceSays, ShownOn, TurnIs, TurnMoves, most_given, stop_met};
+ghost use Rattle.dm_rounds.specs.Lanes.{GoesOn, HasGiven, IsOfContent, PieceMoves, PieceSays, ShownOn, TurnIs, TurnMoves, most_given, stop_met, told_count};
 ghost use Rattle.dm_rounds.specs.Reading.{HasRound, IsTurn, MayTurn, TurnLeaves};
 
 use dm_attempt::{Desk, Going, Stop, land_piece};
@@ -41,6 +42,7 @@ pub enum Turn {
 fn stop_of(cause: Cause) -> Stop
     ensures is { result ≡ stop_met cause }
     ensures met { IsTrue (is_content_cause cause) → IfBroke result IsMet }
+    ensures own { IsTrue (is_content_cause cause) → IsOfContent result }
 {
     match cause {
         Cause::Memory => Stop::NoMemory,
@@ -85,6 +87,8 @@ pub fn next_piece<W: Wire>(lane: &mut Lane<W>, buffer: &mut [u8]) -> Result<Got,
         → PieceSays key W.purpose W.told lane.old lane.new result buffer.new bytes }
     ensures moves { PieceMoves lane.old lane.new result (length buffer.old) }
     ensures limit { most_given lane.new.reader ≡ most_given lane.old.reader }
+    ensures counted { told_count lane.new.reader ≡ told_count lane.old.reader }
+    ensures all { EndsAll lane.old.reader result }
     ensures part { lane.new.part ≡ lane.old.part }
     ensures bounded { lane.new.bounded ≡ lane.old.bounded }
     ensures wanted { lane.new.reader.wanted ≡ lane.old.reader.wanted }
@@ -135,11 +139,13 @@ pub fn turn_of<S: Desk, W: Wire<O = S::O>>(
         → TurnLeaves S.D.tells S.D.history (λ o. said_of (S.O.says o)) S.D.far S.D.faults W.tells W.purpose W.told scene going.now (S.view desk.new) older asking cover shares lane.new result }
     ensures moves { TurnMoves lane.old lane.new result }
     ensures part { lane.new.part ≡ lane.old.part }
+    ensures bounded { lane.new.bounded ≡ lane.old.bounded }
     ensures wanted { lane.new.reader.wanted ≡ lane.old.reader.wanted }
     ensures stays { W.purpose lane.new.wire ≡ W.purpose lane.old.wire }
     ensures origin { W.origin lane.new.wire ≡ W.origin lane.old.wire }
     ensures sent { W.tells → (W.told lane.new.wire).sent ≡ (W.told lane.old.wire).sent }
     ensures met { IfErr result (λ stop. IfBroke stop IsMet) }
+    ensures own { IfErr result IsOfContent }
     ensures shown { IfErr result (ShownOn W.faults lane.new) }
     ensures limits { OnOk result ((S.view desk.new).limits ≡ (S.view desk.old).limits) }
 {

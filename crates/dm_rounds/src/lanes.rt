@@ -12,27 +12,14 @@ ghost use Rattle.dm_attempt.specs.Ending.{IfBroke};
 ghost use Rattle.dm_attempt.specs.Scene.{Scene};
 ghost use Rattle.dm_attempt.specs.Shares.{Share};
 ghost use Rattle.dm_attempt.specs.Trace.{Trace};
-ghost use Rattle.dm_rounds.specs.Lanes.{Closes, SomeShows, left_of};
+ghost use Rattle.dm_rounds.specs.Lanes.{Closes, IsOfContent, NetCounts, SomeShows, left_of};
 ghost use Rattle.dm_rounds.specs.Reading.{IsReading, MayRead, ReadLeaves, RoundLeaves};
 ghost use Rattle.dm_rounds.specs.declared.lane.Lane.{Lane as ALane};
 
 use crate::lane::turn_of;
-use crate::{Lane, Turn};
+use crate::{Lane, Tools, Turn};
 use dm_attempt::{Desk, Going, Stop};
 use dm_edge::{Net, Wire};
-
-/// What is taken before any wire is open.
-pub struct Tools<W> {
-    pub lanes: Vec<Lane<W>>,
-    pub buffer: Vec<u8>,
-}
-
-/// Lets go of the room for lanes, where none is open.
-pub fn let_go<W>(lanes: Vec<Lane<W>>)
-    requires { vec_len lanes ≡ 0 }
-{
-    lanes.destroy_empty();
-}
 
 /// Hands a lane's wire back.
 pub fn close_lane<N: Net>(net: &mut N, lanes: &mut Vec<Lane<N::W>>, k: usize)
@@ -87,6 +74,7 @@ fn take_turn<S: Desk, N: Net<O = S::O>>(
     ensures smaller { OnOk result (left_of lanes.new.items < left_of lanes.old.items) }
     ensures capacity { vec_capacity lanes.new ≡ vec_capacity lanes.old }
     ensures met { IfErr result (λ stop. IfBroke stop IsMet) }
+    ensures own { IfErr result IsOfContent }
     ensures shown { IfErr result (SomeShows N.W.faults lanes.new.items) }
     ensures limits { OnOk result ((S.view desk.new).limits ≡ (S.view desk.old).limits) }
     ensures later { NoneFell (N.faults net.old) (N.faults net.new) }
@@ -120,6 +108,7 @@ pub fn read_lanes<S: Desk, N: Net<O = S::O>>(
     ensures none { OnOk result (lanes.new.items ≡ []) }
     ensures capacity { vec_capacity lanes.new ≡ vec_capacity lanes.old }
     ensures met { IfErr result (λ stop. IfBroke stop IsMet) }
+    ensures own { IfErr result IsOfContent }
     ensures shown { IfErr result (SomeShows N.W.faults lanes.new.items) }
     ensures later { NoneFell (N.faults net.old) (N.faults net.new) }
     ensures origin { N.origin_of net.new ≡ N.origin_of net.old }
@@ -167,7 +156,10 @@ pub fn run_round<S: Desk, N: Net<O = S::O>>(
         → RoundLeaves S.D.tells S.D.history (λ o. said_of (S.O.says o)) S.D.far S.D.faults N.tells scene going.now (S.view desk.new) (N.closed net.new) older asking cover shares result }
     ensures none { tools.new.lanes.items ≡ [] }
     ensures capacity { vec_capacity tools.new.lanes ≡ vec_capacity tools.old.lanes }
+    ensures buffer { vec_len tools.new.buffer ≡ vec_len tools.old.buffer }
     ensures met { IfErr result (λ stop. IfBroke stop IsMet) }
+    ensures own { IfErr result IsOfContent }
+    ensures counted { IfErr result (NetCounts (N.faults net.old) (N.faults net.new)) }
     ensures later { NoneFell (N.faults net.old) (N.faults net.new) }
     ensures origin { N.origin_of net.new ≡ N.origin_of net.old }
 {

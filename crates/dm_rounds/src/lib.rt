@@ -2,18 +2,23 @@
 #![tactic(auto)]
 
 mod asking;
+mod beginning;
+mod first;
 mod lane;
 mod lanes;
 mod opening;
 mod rounding;
+mod running;
 mod telling;
+mod tools;
 
 pub use asking::ask_part;
+pub use beginning::begin_round;
+pub use first::{Reply, first_reply};
 pub use lane::{Lane, Turn};
-pub use lanes::{Tools, close_all, let_go, read_lanes, run_round};
+pub use lanes::{close_all, read_lanes, run_round};
 pub use opening::{ask_rest, open_parts};
 pub use rounding::open_round;
+pub use running::{run_kept, run_rounds};
 pub use telling::told_of;
-
-#[cfg(test)]
-mod tests;
+pub use tools::Tools;

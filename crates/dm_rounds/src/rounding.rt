@@ -33,7 +33,7 @@ pub fn open_round<S: Desk, N: Net<O = S::O>>(
     requires room { 16 ≤ vec_capacity lanes.old }
     ensures goes { (scene : Scene S.D S.O) (trace : Trace) (asking : Asking)
         → LiveDesk S.D.tells S.D.history (λ o. said_of (S.O.says o)) S.D.far S.D.faults scene pass.now (S.view desk.old) trace
-        → IsSome (told_by scene trace.told).key → trace.count ≡ n → AsksAll asking source.now pass.now → IsKeyed asking (told_by scene trace.told)
+        → IsSome (told_by scene trace.told).key → trace.count ≡ n → AsksAll asking source.now pass.now → IsKeyed pass.now asking (told_by scene trace.told)
         → (N.tells → N.closed net.old ≡ closed_before scene trace) → N.origin_of net.old ≡ scene.start.origin
         → OpenLeaves S.D.tells S.D.history (λ o. said_of (S.O.says o)) S.D.far S.D.faults N.tells N.W.tells N.W.purpose N.W.told N.W.origin scene pass.now (S.view desk.new) (N.closed net.new)
         (N.faults net.old) (N.faults net.new) trace asking source.now lanes.new.items result }

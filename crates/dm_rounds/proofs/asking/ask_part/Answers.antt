@@ -58,5 +58,8 @@ returns-in-Broke-clause-stopped g c t =
     subst (λ (w : Wanted). IsStopped w (purpose_of c.args.pass.now.id c.args.pass.now.attempt) c.args.source.now.address (N.faults c.args.net.now) (N.faults c.ask.new.net) (N.closed c.args.net.now) (N.closed c.ask.new.net) c.in-Broke.cause)
     c.in-Ok.ensures (c.in-Broke.ensures.stopped t)
 
+pub returns-in-Broke-clause-counted : goal.returns-in-Broke-clause-counted
+returns-in-Broke-clause-counted g c = (c.in-Broke.ensures.apart, c.in-Broke.ensures.shown.counted)
+
 pub returns-in-Broke-clause-met : goal.returns-in-Broke-clause-met
 returns-in-Broke-clause-met g c = ask_met c.in-Broke.cause c.in-Broke.ensures.shown.own

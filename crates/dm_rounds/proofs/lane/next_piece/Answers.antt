@@ -2,7 +2,7 @@ use Rattle.std.proofs.Common.{List, ℕ, ◌≤◌, ◌++◌, length, drop, sym,
 use Rattle.std.proofs.lemmas.List.{length-take-le, take-append-le}
 use Rattle.dm_reply.specs.Content.{HasRead}
 use Rattle.dm_rounds.proofs.Causes.{cause_shown}
-use Rattle.dm_rounds.proofs.Turns.{most_same, piece_fits}
+use Rattle.dm_rounds.proofs.Turns.{count_same, most_same, piece_fits}
 use Rattle.dm_rounds.proofs.lane.next_piece.Goals as goal
 
 pub moved-lane-requires : goal.moved-lane-requires
@@ -46,3 +46,15 @@ returns-in-Ok-End-clause-limit g c = most_same c.args.lane.now.reader c.content.
 
 pub returns-in-Err-clause-limit : goal.returns-in-Err-clause-limit
 returns-in-Err-clause-limit g c = most_same c.args.lane.now.reader c.content.new.self c.content.ensures.kept.1 c.content.ensures.kept.2
+
+pub returns-in-Ok-Bytes-clause-counted : goal.returns-in-Ok-Bytes-clause-counted
+returns-in-Ok-Bytes-clause-counted g c = count_same c.args.lane.now.reader c.content.new.self c.content.ensures.kept.1 c.content.ensures.kept.2
+
+pub returns-in-Ok-End-clause-counted : goal.returns-in-Ok-End-clause-counted
+returns-in-Ok-End-clause-counted g c = count_same c.args.lane.now.reader c.content.new.self c.content.ensures.kept.1 c.content.ensures.kept.2
+
+pub returns-in-Err-clause-counted : goal.returns-in-Err-clause-counted
+returns-in-Err-clause-counted g c = count_same c.args.lane.now.reader c.content.new.self c.content.ensures.kept.1 c.content.ensures.kept.2
+
+pub returns-in-Ok-End-clause-all : goal.returns-in-Ok-End-clause-all
+returns-in-Ok-End-clause-all g c = rw c.in-Ok-End.field-0-is at c.in-Ok-End.ensures.all

@@ -5,7 +5,7 @@ use Rattle.dm_attempt.specs.declared.stop.Stop.{Stop}
 use Rattle.dm_attempt.specs.Trace.{opened}
 use Rattle.dm_rounds.specs.Lanes.{PieceSays}
 use Rattle.dm_rounds.specs.Reading.{TurnLeaves, live_round}
-use Rattle.dm_rounds.proofs.Causes.{desk_shown}
+use Rattle.dm_rounds.proofs.Causes.{desk_own, desk_shown}
 use Rattle.dm_rounds.proofs.Turns.{piece_next}
 use Rattle.dm_rounds.proofs.Going.{says_next, turn_broke, turn_ended, turn_landed, turn_refused}
 use Rattle.dm_rounds.proofs.lane.turn_of.Goals as goal
@@ -60,7 +60,7 @@ returns-in-Ok-clause-goes g c scene older asking cover shares has turn =
     let moves = rw c.in-Ok-Bytes.field-0-is at c.in-Ok-Bytes.ensures.moves in
     let within : n ≤ length buffer = omega (arith, moves.1, c.next_piece.auto.buffer) in
     turn_landed D.tells D.history (λ o. said_of (g.S.O.Origin.says o)) D.far D.faults W.tells W.purpose W.told W.origin scene c.args.going.now (g.S.Desk.view c.land_piece.new.desk) older asking cover shares old new turn
-    c.next_piece.ensures.part c.next_piece.ensures.wanted c.next_piece.ensures.stays n _ buffer moves within c.next_piece.ensures.limit c.next_piece.ensures.bounded
+    c.next_piece.ensures.part c.next_piece.ensures.wanted c.next_piece.ensures.stays n _ buffer moves within c.next_piece.ensures.limit c.next_piece.ensures.counted c.next_piece.ensures.bounded
     (λ t bytes given. rw c.in-Ok-Bytes.field-0-is at (c.in-Ok-Bytes.ensures.says t asking.key bytes given))
     (c.in-Ok.ensures.goes scene older (live_round asking cover shares) has.live
     (piece_next W.tells W.purpose W.told asking.key shares old new turn.ready c.next_piece.ensures.part c.next_piece.ensures.wanted c.next_piece.ensures.stays n _ buffer moves within) has.turn_is)
@@ -88,7 +88,7 @@ returns-in-Ok-End-clause-goes g c scene older asking cover shares has turn =
     let D = g.S.D.Disk in
     let W = g.W.Wire in
     turn_ended D.tells D.history (λ o. said_of (g.S.O.Origin.says o)) D.far D.faults W.tells W.purpose W.told W.origin scene c.args.going.now (g.S.Desk.view c.args.desk.now) older asking cover shares c.args.lane.now c.next_piece.new.lane turn
-    c.next_piece.ensures.part c.next_piece.ensures.wanted c.next_piece.ensures.stays has.live c.next_piece.new.buffer
+    c.next_piece.ensures.part c.next_piece.ensures.wanted c.next_piece.ensures.stays has.live (rw c.in-Ok-End.field-0-is at c.in-Ok-End.ensures.all) c.next_piece.ensures.counted c.next_piece.ensures.bounded c.next_piece.new.buffer
     (λ t bytes given. rw c.in-Ok-End.field-0-is at (c.in-Ok-End.ensures.says t asking.key bytes given))
 
 pub returns-in-Err-clause-goes : goal.returns-in-Err-clause-goes
@@ -101,3 +101,6 @@ returns-in-Err-clause-goes g c scene older asking cover shares has turn =
 
 pub returns-in-Err-land_piece-clause-shown : goal.returns-in-Err-land_piece-clause-shown
 returns-in-Err-land_piece-clause-shown g c = desk_shown g.W.Wire.faults c.next_piece.new.lane c.in-Err-land_piece.stop c.in-Err-land_piece.ensures.apart
+
+pub returns-in-Err-land_piece-clause-own : goal.returns-in-Err-land_piece-clause-own
+returns-in-Err-land_piece-clause-own g c = desk_own c.in-Err-land_piece.stop c.in-Err-land_piece.ensures.apart

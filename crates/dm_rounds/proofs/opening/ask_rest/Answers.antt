@@ -63,6 +63,7 @@ returns-in-Err-clause-stopped g c asking shares start from asked opening =
       lanes_are = before.lanes_are;
       since = N.faults c.loop-slice.net;
       later = was.later;
+      counted = c.in-Err.ensures.counted;
       lost = λ t. subst (λ (p : Part). StopsAsking c.args.source.now c.args.pass.now p (N.faults c.loop-slice.net) (N.faults c.ask_part.new.net) start (N.closed c.ask_part.new.net) c.in-Err.stop) c.part_of.ensures (subst (λ (l : List Closed). StopsAsking c.args.source.now c.args.pass.now c.part_of.result (N.faults c.loop-slice.net) (N.faults c.ask_part.new.net) l (N.closed c.ask_part.new.net) c.in-Err.stop) (before.still t) (c.in-Err.ensures.stopped t));
     }
 
