@@ -1,0 +1,5 @@
+pub mod Answering
+pub mod Pages
+pub mod Paging
+pub mod Shows
+pub mod Words
