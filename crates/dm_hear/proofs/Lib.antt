@@ -1,0 +1,5 @@
+mod RequestLines
+mod ManyLines
+mod Heads
+mod Lengths
+mod Hearing
