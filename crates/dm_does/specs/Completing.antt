@@ -14,11 +14,11 @@ use Rattle.dm_report.specs.declared.verdict.Verdict.TheVariants.{Done, NoMemory}
 use Rattle.dm_does.specs.declared.course.Course.TheVariants.{Brings}
 use Rattle.dm_does.specs.declared.job.Job.{Job}
 use Rattle.dm_does.specs.Answering.{given_by}
+use Rattle.dm_does.specs.Contents.{AreOneContent, FitsContent}
 use Rattle.dm_does.specs.Doing.{Doing, does}
 use Rattle.dm_does.specs.Jobs.{HasJob, RefusesWords}
 use Rattle.dm_does.specs.Log.{Log, Run, Untouched, Opened, kept_of, opened_of}
 use Rattle.dm_does.specs.Saying.{said_by}
-use Rattle.dm_does.specs.Serving.{FitsContent, ServesWhole}
 use Rattle.dm_does.specs.World.{World}
 
 -- The words are a job, all of its own entries were recorded, and it says what it says of the items at the end.
@@ -37,24 +37,29 @@ pub data Gives (words : List (List ℕ)) (at : ℕ) (said : Said) : Run → Type
   wanting : (run : Run) → said ≡ only NoMemory → Gives words at said run
   all : (log : Log) → GivesAll words at log said → Gives words at said (Opened log)
 
--- Nothing stands in the way of an item that is brought: no call fails, all that is asked for is served whole, of one content, what is there already is of it, and a name is free, by the
--- driver's own word.
-pub record IsFavoured (named : World → World → ItemId → Type 0) (before after : World) (items : List Item) (id : ItemId) : Type 0 where
+-- What the driver's crate says of an item that is brought: that all that was asked for on these connections is served whole, and that a name is free for it between two worlds.
+pub record Serving : Type 1 where
+  pub serves : ItemId → List Closed → Type 0
+  pub named : World → World → ItemId → Type 0
+
+-- Nothing stands in the way of an item that is brought: no call fails, all that is asked for is served whole, of one content, what is there already is of it, and a name is free.
+pub record IsFavoured (serving : Serving) (before after : World) (items : List Item) (id : ItemId) : Type 0 where
   pub no_disk : NoneRose before.disk_faults after.disk_faults
   pub no_net : NoneRose before.net_faults after.net_faults
-  pub content : List ℕ
   pub new : List Closed
   pub new_is : after.closed ≡ before.closed ++ new
-  pub serves : ServesWhole content id new
+  pub served : serving.serves id new
+  pub content : List ℕ
+  pub one : AreOneContent content id new
   pub fits : (item : Item) → item_in id.0 items ≡ Some item → FitsContent content item (now before.disk)
-  pub named_is : named before after id
+  pub free : serving.named before after id
 
 -- it is complete at the end, after one attempt by the user at most
-pub record IsCompleted (id : ItemId) (fetched : History) (said : Said) : Type 0 where
+pub record IsCompleted (fetched : History) (said : Said) : Type 0 where
   pub done : said.verdict ≡ Done
   pub one : count_of is_began_by_user fetched ≤ 1
 
 -- Where a job brings an item, and nothing stands in the way, it is complete at the end, or memory was wanting.
-abbrev pub Completes : (World → World → ItemId → Type 0) → World → World → Doing → List Item → History → Said → Type 0
-Completes named before after doing items fetched said =
-    (id : ItemId) (slices : ℕ) → doing.course ≡ Brings id slices → IsFavoured named before after items id → IsCompleted id fetched said ⊎ (said ≡ only NoMemory)
+abbrev pub Completes : Serving → World → World → Doing → List Item → History → Said → Type 0
+Completes serving before after doing items fetched said =
+    (id : ItemId) (slices : ℕ) → doing.course ≡ Brings id slices → IsFavoured serving before after items id → IsCompleted fetched said ⊎ (said ≡ only NoMemory)

@@ -12,5 +12,5 @@ pub mod Leaving
 pub mod Explaining
 pub mod Headline
 pub mod Session
-pub mod Serving
+pub mod Contents
 pub mod Completing
