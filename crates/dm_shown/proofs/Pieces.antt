@@ -1,19 +1,19 @@
 -- How the pieces of a page are the page.
-use Rattle.std.proofs.Common.{◌≡◌, ◌≢◌, ℕ, suc, zero, ◌+◌, ◌-◌, ◌<◌, ◌≤◌, Bool, true, false, cond, ◌&&◌, List, [], ◌∷◌, ◌++◌, length, get_or, take, drop, Option, Some, None, refl, sym, ◌∙◌, ap, subst, arith, append_assoc}
+use Rattle.std.proofs.Common.{◌≡◌, ℕ, suc, zero, ◌+◌, ◌-◌, ◌<◌, ◌≤◌, Bool, true, false, cond, List, [], ◌∷◌, ◌++◌, length, get_or, take, drop, Some, None, refl, sym, ◌∙◌, ap, subst, arith, append_assoc}
 use Rattle.std.specs.Prelude.{min, nat_lt, not, slice_get}
-use Rattle.std.specs.List.{All, AllPairs, filter, count_by}
+use Rattle.std.specs.List.{All, AllPairs, filter}
 use Rattle.std.proofs.Math.Bool.{and-true}
 use Rattle.std.proofs.Math.Seq.{take-append-add}
 use Rattle.std.proofs.lemmas.Bool.Decides.{nat_tests}
-use Rattle.std.proofs.lemmas.List.{get_or-take, length-append, length-take, length-take-le, take-append-drop, take_all, append-nil}
+use Rattle.std.proofs.lemmas.List.{get_or-take, length-append, length-take, length-take-le, take-append-drop, take_all}
 use Rattle.std.proofs.lemmas.List.Elements.{All-append, filter-append, filter_passes}
 use Rattle.std.proofs.lemmas.List.Kept.{AllPairs-filter}
 use Rattle.std.proofs.lemmas.List.Sums.{count_by-le-length, length-filter}
-use Rattle.std.proofs.lemmas.Option.{none-some, same_Some, slice_get-get_or}
+use Rattle.std.proofs.lemmas.Option.{same_Some, slice_get-get_or}
 use Rattle.dm_types.specs.declared.item.Item.{Item}
 use Rattle.dm_hist.specs.declared.row.Row.{Row}
 use Rattle.dm_hist.specs.declared.row.RowFilter.{RowFilter}
-use Rattle.dm_hist.specs.Rows.{AreRows, is_due, page_of, rows_above}
+use Rattle.dm_hist.specs.Rows.{is_due, page_of, rows_above}
 use Rattle.dm_hist.specs.Shown.{is_listed, shown}
 use Rattle.dm_shown.specs.Pages.{shown_page}
 use Rattle.dm_shown.specs.Paging.{Adds, id_above, next_from}

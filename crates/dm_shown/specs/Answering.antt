@@ -1,5 +1,5 @@
 -- How a row answers a command that names its word.
-use Rattle.std.specs.Prelude.{ℕ, Bool, true, false, List, bytes_eq, if◌then◌else◌}
+use Rattle.std.specs.Prelude.{ℕ, List, bytes_eq, if◌then◌else◌}
 use Rattle.dm_types.specs.declared.item.Phase.TheVariants.{Cancelled}
 use Rattle.dm_report.specs.declared.verdict.Verdict.{Verdict}
 use Rattle.dm_report.specs.declared.verdict.Verdict.TheVariants as verdicts

@@ -1,5 +1,5 @@
 -- How often each item and each row is shown, by the list and by the history together.
-use Rattle.std.specs.Prelude.{◌≡◌, ◌⊎◌, ℕ, ◌+◌, ◌==◌, Bool, true, List, Some, None}
+use Rattle.std.specs.Prelude.{◌≡◌, ◌⊎◌, ℕ, ◌+◌, ◌==◌, Bool, List, Some}
 use Rattle.std.specs.List.{count_by}
 use Rattle.dm_types.specs.declared.item.Item.{Item}
 use Rattle.dm_item.specs.Listing.{item_in}

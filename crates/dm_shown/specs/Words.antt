@@ -1,5 +1,5 @@
 -- What a word names: an item, or else a row of the history.
-use Rattle.std.specs.Prelude.{◌≡◌, ℕ, List, [], ◌∷◌, Option, Some, None, Result, Ok, Err, find, bytes_eq, option_map}
+use Rattle.std.specs.Prelude.{◌≡◌, ℕ, List, [], ◌∷◌, Option, Some, None, Result, Ok, find, bytes_eq, option_map}
 use Rattle.dm_types.specs.declared.item.Item.{Item}
 use Rattle.dm_hist.specs.declared.row.Row.{Row}
 use Rattle.dm_hist.specs.Rows.{row_with}

@@ -1,0 +1,4 @@
+mod Leaves
+mod Moves
+mod Nexts
+mod Rows
