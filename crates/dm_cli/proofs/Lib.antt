@@ -12,4 +12,5 @@ pub mod Running
 pub mod Stopping
 pub mod Storing
 pub mod Taken
-pub mod Writing
+pub mod Folded
+pub mod Listed

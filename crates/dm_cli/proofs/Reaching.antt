@@ -16,7 +16,7 @@ use Rattle.dm_disk_model.proofs.Reaching.{weaker}
 use Rattle.std.specs.Fmt.{decimal}
 use Rattle.std.specs.Char.{to_ascii_lowercase}
 use Rattle.std.proofs.lemmas.List.{map-append}
-use Rattle.dm_list.specs.FileName.{IsFileName}
+use Rattle.dm_cli.specs.FileName.{IsFileName}
 use Rattle.dm_types.specs.Name.{fold_case, part_ending}
 use Rattle.dm_types.specs.Name.{part_name}
 use Rattle.dm_reply.specs.Content.{Reader}

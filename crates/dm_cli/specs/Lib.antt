@@ -1,3 +1,4 @@
+pub mod FileName
 pub mod Lines
 pub mod Served
 pub mod Causes

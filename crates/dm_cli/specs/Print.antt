@@ -1,28 +1,15 @@
 -- What is written to the outputs, and the status.
-use Rattle.std.specs.Prelude.{◌≡◌, ◌⊎◌, ℕ, List, ◌++◌, take, Result, MatchResult}
-use Rattle.dm_types.specs.Faults.{Rose}
+use Rattle.std.specs.Prelude.{◌≡◌, ◌⊎◌, ℕ, List, ◌++◌}
 use Rattle.dm_edge.specs.declared.fault.EdgeFault.{EdgeFault}
+use Rattle.dm_does.specs.Printing.{SomeRose, WritesSome}
 use Rattle.dm_cli.specs.declared.ending.Ending.{Ending}
 use Rattle.dm_cli.specs.Ending.{status_of, out_text, errs_text}
-
--- all of the text was added, or after a fault some front of it
-abbrev pub WritesAll : List ℕ → List ℕ → Result (Unit {0}) EdgeFault → List ℕ → Type 0
-WritesAll before now result text =
-    MatchResult result (λ _. now ≡ before ++ text) (λ _. (n : ℕ) × (now ≡ before ++ take n text))
-
--- some front of the text was added
-abbrev pub WritesSome : List ℕ → List ℕ → List ℕ → Type 0
-WritesSome before now text = (n : ℕ) × (now ≡ before ++ take n text)
 
 -- both texts were written, and the status is what was said
 pub record ArePrinted (tells : Type 0) (out_old out_new errs_old errs_new out errs : List ℕ) (said status : ℕ) : Type 0 where
   pub status_is : status ≡ said
   pub out_is : tells → out_new ≡ out_old ++ out
   pub errs_is : tells → errs_new ≡ errs_old ++ errs
-
--- some count rose
-abbrev pub SomeRose : (EdgeFault → ℕ) → (EdgeFault → ℕ) → Type 0
-SomeRose before after = (kind : EdgeFault) × Rose (before kind) (after kind)
 
 -- a write failed, which shows in a count: the status is 7, and of each text some front was written
 pub record AreCutOff (tells : Type 0) (out_old out_new errs_old errs_new : List ℕ) (out_before out_after errs_before errs_after : EdgeFault → ℕ) (out errs : List ℕ) (status : ℕ) : Type 0 where

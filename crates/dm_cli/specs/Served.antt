@@ -2,7 +2,7 @@
 use Rattle.std.specs.Prelude.{◌≡◌, ℕ, List, codes, Some, None}
 use Rattle.std.specs.List.{Any}
 use Rattle.dm_words.specs.Asked.{Asked, Asks, Gets, WishOf}
-use Rattle.dm_list.specs.FileName.{IsFileName}
+use Rattle.dm_cli.specs.FileName.{IsFileName}
 
 -- a name and an address, and nothing else
 abbrev pub plain_wish : List ℕ → List ℕ → WishOf

@@ -8,7 +8,7 @@ ghost use Rattle.dm_disk_model.specs.Moments.{Throughout};
 ghost use Rattle.dm_edge.specs.Wire.{stream_of};
 ghost use Rattle.dm_edge.specs.declared.wanted.Wanted.TheVariants as asks;
 ghost use Rattle.dm_cli.specs.Reading.{HasRead};
-ghost use Rattle.dm_list.specs.FileName.{IsFileName};
+ghost use Rattle.dm_cli.specs.FileName.{IsFileName};
 ghost use Rattle.dm_types.specs.Name.{fold_case};
 ghost use Rattle.dm_request.specs.Request.{request_of};
 ghost use Rattle.dm_cli.specs.Causes.{IsTaken, OnWire};

@@ -6,13 +6,13 @@ mod ending;
 mod follow;
 mod get;
 mod lines;
-mod listing;
+mod name;
 mod printing;
 mod run;
 mod served;
 mod words;
 
+pub use dm_list::Ran;
 pub use ending::Ending;
 pub use printing::print;
-pub use run::Ran;
 pub use words::{refused, run_words};

@@ -14,17 +14,11 @@ use crate::printing::print;
 use crate::served::{read_address, read_get};
 use dm_disk_model::Disk;
 use dm_edge::{Clock, Net, Sink};
+use dm_list::Ran;
 use dm_request::Unread;
 use dm_types::Text;
 use dm_words::BadWords;
 use std::alloc::Global;
-
-/// A run that is over: the status that the program ends with, and the disk that was handed in.
-#[derive(Debug, Drop)]
-pub struct Ran<D> {
-    pub status: u8,
-    pub disk: D,
-}
 
 /// Does what the words say.
 fn run<D: Disk, N: Net>(alloc: Global, words: &[Text], disk: &mut D, net: &mut N) -> Ending

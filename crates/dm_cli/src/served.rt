@@ -6,7 +6,7 @@ ghost use Rattle.dm_request.specs.Fault.{IsRead};
 ghost use Rattle.dm_cli.specs.Run.{IsUnread};
 ghost use Rattle.dm_cli.specs.Served.{IsGet, IsPlain, IsServed, Serves};
 
-use dm_list::is_file_name;
+use crate::name::is_file_name;
 use dm_request::Unread;
 use dm_types::{Address, Text};
 use dm_words::{BadWords, Command, Wish, read_command};

@@ -1,7 +1,4 @@
-pub mod FileName
-pub mod Listed
-pub mod Ending
-pub mod Moments
-pub mod Run
-pub mod Says
-pub mod Steps
+pub mod Reading
+pub mod Working
+pub mod Running
+pub mod Writing

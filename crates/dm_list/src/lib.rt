@@ -1,18 +1,16 @@
-//! The commands of the list: `add`, `list` and `show`, each one run over a disk.
+//! The commands of the list, each one run over a disk: what words ask is done, and what it comes to is printed.
 #![tactic(auto)]
 
-mod adding;
-mod command;
-mod ending;
-mod laws;
-mod looking;
-mod name;
+mod deciding;
+mod job;
 mod opening;
 mod order;
+mod printing;
 mod run;
+mod running;
+mod saying;
+mod working;
 
-pub use command::{ListCommand, read_list_command};
-pub use ending::{ListEnding, ListRan};
-pub use laws::one_answer;
-pub use name::is_file_name;
-pub use run::run_list;
+pub use job::read_job;
+pub use printing::{print_ending, write_all};
+pub use run::{Ran, asks_list, run_list};

@@ -1,125 +1,91 @@
-ghost use Rattle.dm_disk_model.specs.Disk.{now as present};
-ghost use Rattle.dm_disk_model.specs.Moments.{KeepsFiles, LeavesOnly};
-ghost use Rattle.dm_list.specs.Listed.{Lists, Shows, adds_item, asked};
-ghost use Rattle.dm_list.specs.Ending.{HasShown};
-ghost use Rattle.dm_list.specs.Moments.{RunLeaves};
-ghost use Rattle.dm_list.specs.Run.{HasGoodWords, Judges, RunSays};
+//! The commands of the list, from their words to what is printed.
+ghost use Rattle.std.specs.Prelude.{ℕ, List, IsTrue, ◌↔◌};
+ghost use Rattle.dm_edge.specs.declared.fault.NetFault.{NetFault};
+ghost use Rattle.dm_edge.specs.Wire.{Closed};
+ghost use Rattle.dm_does.specs.Explaining.{Explains};
+ghost use Rattle.dm_store.specs.Origin.{said_of};
+ghost use Rattle.dm_words.specs.Asked.{asked};
+ghost use Rattle.dm_list.specs.Reading.{AsksList, asks_list};
+ghost use Rattle.dm_list.specs.Running.{RunsBy, never, world_of};
+ghost use Rattle.dm_list.specs.Writing.{outputs_of};
 
-use crate::adding::add_order;
-use crate::looking::{say_list, say_shown};
-use crate::opening::open_desk;
-use crate::order::read_order;
-use crate::{ListCommand, ListRan};
-use dm_desk::Order;
+use crate::job::read_job;
+use crate::opening::Over;
+use crate::printing::print_ending;
+use crate::running::run_job;
 use dm_disk_model::Disk;
-use dm_edge::Origin;
-use dm_types::ItemId;
-use dm_words::Wish;
+use dm_edge::{Clock, Origin, Sink};
+use dm_report::Ending;
+use dm_types::Text;
+use dm_words::{BadWords, Command, read_command};
 use std::alloc::Global;
 
-/// `list`: prints a line for each item.
-fn run_lines<D: Disk, O: Origin>(alloc: Global, disk: D, origin: O, at: u64) -> ListRan<D>
-    ensures says { RunSays D.tells (D.history disk) (D.history result.disk) Lists at result.ending }
-    ensures moments { D.tells → LeavesOnly (D.history disk) (D.history result.disk) (RunLeaves (present (D.history disk)) Lists at) }
-    ensures judges { Judges Lists disk result.disk result.ending }
-    ensures beside { D.tells → KeepsFiles (D.history disk) (D.history result.disk) }
-    ensures shown { HasShown (D.faults disk) (D.faults result.disk) result.ending }
-{
-    match open_desk(alloc, disk, origin, at) {
-        Ok(desk) => {
-            let ending = say_list(alloc, desk.items());
-            ListRan {
-                ending,
-                disk: desk.into_disk(),
-            }
-        }
-        Err(ran) => ran,
-    }
+/// A run that is over: the status that the program ends with, and the disk that was handed in.
+#[derive(Debug, Drop)]
+pub struct Ran<D> {
+    pub status: u8,
+    pub disk: D,
 }
 
-/// `show`: prints the item with the id, whole.
-fn run_show<D: Disk, O: Origin>(alloc: Global, id: u32, disk: D, origin: O, at: u64) -> ListRan<D>
-    ensures says { RunSays D.tells (D.history disk) (D.history result.disk) (Shows id) at result.ending }
-    ensures moments { D.tells → LeavesOnly (D.history disk) (D.history result.disk) (RunLeaves (present (D.history disk)) (Shows id) at) }
-    ensures judges { Judges (Shows id) disk result.disk result.ending }
-    ensures beside { D.tells → KeepsFiles (D.history disk) (D.history result.disk) }
-    ensures shown { HasShown (D.faults disk) (D.faults result.disk) result.ending }
-{
-    match open_desk(alloc, disk, origin, at) {
-        Ok(desk) => {
-            let ending = say_shown(alloc, desk.items(), ItemId(id));
-            ListRan {
-                ending,
-                disk: desk.into_disk(),
-            }
-        }
-        Err(ran) => ran,
-    }
-}
-
-/// Lets an order go.
-fn let_go(_order: Order) {}
-
-/// `add`: adds an item for an address, and prints its line.
-fn run_add<D: Disk, O: Origin>(
-    alloc: Global,
-    item: &Wish<'_>,
-    disk: D,
-    origin: O,
-    at: u64,
-) -> ListRan<D>
-    requires { HasGoodWords (adds_item item.now) }
-    ensures says { RunSays D.tells (D.history disk) (D.history result.disk) (adds_item item.now) at result.ending }
-    ensures moments { D.tells → LeavesOnly (D.history disk) (D.history result.disk) (RunLeaves (present (D.history disk)) (adds_item item.now) at) }
-    ensures judges { Judges (adds_item item.now) disk result.disk result.ending }
-    ensures beside { D.tells → KeepsFiles (D.history disk) (D.history result.disk) }
-    ensures shown { HasShown (D.faults disk) (D.faults result.disk) result.ending }
-{
-    let order = match read_order(alloc, item) {
-        Ok(order) => order,
-        Err(ending) => return ListRan { ending, disk },
-    };
-    let mut desk = match open_desk(alloc, disk, origin, at) {
-        Ok(desk) => desk,
-        Err(ran) => {
-            let_go(order);
-            return ran;
-        }
-    };
-    let ending = add_order(alloc, &mut desk, order, at);
-    ListRan {
-        ending,
-        disk: desk.into_disk(),
-    }
-}
-
-/// Does what a command says of the list of a disk, and hands the disk back. `now` is the moment in
-/// milliseconds since 1970. A word and a name keep their rules, as the words of a command say. Where the
-/// address of an `add` is refused nothing is done. Else the list is opened, which is recorded, and an
-/// item that is added is recorded before its line is made: where memory is wanting for that it stands.
-pub fn run_list<D: Disk, O: Origin>(
-    alloc: Global,
-    command: &ListCommand<'_>,
-    disk: D,
-    origin: O,
-    now: u64,
-) -> ListRan<D>
-    requires { HasGoodWords (asked command.now) }
-
-    // What the ending says of the list that the journal held, of what was added, and of what each crash after the run leaves.
-    ensures says { RunSays D.tells (D.history disk) (D.history result.disk) (asked command.now) now result.ending }
-
-    // A crash at any moment leaves what one at the start might have, or the list with the first so many of the run's entries.
-    ensures moments { D.tells → LeavesOnly (D.history disk) (D.history result.disk) (RunLeaves (present (D.history disk)) (asked command.now) now) }
-
-    // The address is refused just where it is none, and then nothing was done.
-    ensures judges { Judges (asked command.now) disk result.disk result.ending }
-    ensures beside { D.tells → KeepsFiles (D.history disk) (D.history result.disk) }
-    ensures shown { HasShown (D.faults disk) (D.faults result.disk) result.ending }
+/// Whether a command is one of the list: one that brings no item.
+fn is_listed(command: Command<'_>) -> bool
+    ensures { IsTrue result ↔ asks_list (asked command.entry) }
 {
     match command {
-        ListCommand::Add(item) => run_add(alloc, item, disk, origin, now),
-        ListCommand::List => run_lines(alloc, disk, origin, now),
-        ListCommand::Show(id) => run_show(alloc, *id, disk, origin, now),
+        Command::Get(_, _) => false,
+        Command::Resume(_, _) => false,
+        Command::Add(_) => true,
+        Command::Pause(_) => true,
+        Command::Cancel(_) => true,
+        Command::Remove(_) => true,
+        Command::Show(_) => true,
+        Command::List => true,
     }
+}
+
+/// Whether words ask for a job of the list, whatever their address is.
+pub fn asks_list(words: &[Text]) -> bool
+    ensures { IsTrue result ↔ AsksList words.now }
+{
+    match read_command(words) {
+        Ok(command) => is_listed(command),
+        Err(BadWords) => false,
+    }
+}
+
+/// Does what the words ask at this moment, in milliseconds since 1970.
+fn run_at<D: Disk, O: Origin>(alloc: Global, words: &[Text], disk: D, origin: O, at: u64) -> Over<D>
+    requires { AsksList words.now }
+    ensures { (net_faults : NetFault → ℕ) (closed : List Closed) → RunsBy never D.tells (said_of (O.says origin)) words.now at
+        (world_of D.history D.faults net_faults closed disk) (world_of D.history D.faults net_faults closed result.disk) (D.far disk) (D.far result.disk) result.ending }
+{
+    match read_job(alloc, words) {
+        Ok(job) => run_job(alloc, job, disk, origin, at),
+        Err(verdict) => Over {
+            ending: Ending::fixed(alloc, verdict),
+            disk,
+        },
+    }
+}
+
+/// One run of a command of the list: what the words ask is done, the disk is handed back, and what is printed
+/// and the status say how it ended. The clock is asked once, before anything is done.
+pub fn run_list<D: Disk, O: Origin, C: Clock, S: Sink>(
+    alloc: Global,
+    words: &[Text],
+    disk: D,
+    origin: O,
+    clock: &mut C,
+    out: &mut S,
+    errs: &mut S,
+) -> Ran<D>
+    requires { AsksList words.now }
+    ensures { (net_faults : NetFault → ℕ) (closed : List Closed) → Explains never (record { disk = D.tells; clock = C.tells; outputs = S.tells }) (said_of (O.says origin)) words.now (C.next clock.old)
+        (world_of D.history D.faults net_faults closed disk) (world_of D.history D.faults net_faults closed result.disk) (D.far disk) (D.far result.disk)
+        (outputs_of S.written S.faults out.old errs.old) (outputs_of S.written S.faults out.new errs.new) result.status }
+{
+    let at = clock.now();
+    let Over { ending, disk } = run_at(alloc, words, disk, origin, at);
+    let status = print_ending(&ending, out, errs);
+    Ran { status, disk }
 }

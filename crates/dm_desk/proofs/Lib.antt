@@ -1,9 +1,0 @@
-pub mod Answering
-pub mod Changings
-pub mod Desks
-pub mod Dues
-pub mod Openings
-pub mod Orders
-pub mod Pages
-pub mod Recordings
-pub mod Taking
