@@ -18,7 +18,7 @@ impl<D: Disk, O: Origin> Desk<D, O> {
     ghost use Rattle.dm_answers.specs.Faults.{desk_kind, open_kind};
     ghost use Rattle.dm_answers.specs.Opening.{OpenAnswers, OpenKeeps, OpenLeaves, ReopenAnswers, disk_of};
     ghost use Rattle.dm_answers.specs.Reads.{IsSettledName};
-    ghost use Rattle.dm_open.specs.Refused.{OpenRefuses, ReopenRefuses};
+    ghost use Rattle.dm_open.specs.Refused.{OpenRefuses, OpensOn, ReopenRefuses};
 
     /// Opens the list of a disk: finds its journal or starts it, records that it was opened, settles each
     /// item that was being finished, and removes each part that none needs. `at` is the moment in
@@ -34,6 +34,7 @@ impl<D: Disk, O: Origin> Desk<D, O> {
         ensures kept { IfOk result (IsDesk D.tells D.history) }
         ensures answers { OpenAnswers D.tells D.history D.far (said_of (O.says origin)) disk origin limits at result }
         ensures refused { IfErr result (OpenRefuses D.tells D.history D.far (said_of (O.says origin)) disk limits.items at) }
+        ensures on { OpensOn D.tells D.history (said_of (O.says origin)) disk result }
         ensures moments { D.tells → Throughout (D.history disk) (D.history (disk_of result)) (OpenLeaves D.tells (D.history disk) (D.history (disk_of result)) at) }
         ensures keeps { D.tells → OpenKeeps D.tells (said_of (O.says origin)) (D.history disk) (D.history (disk_of result)) at }
         ensures beside { D.tells → Besides (IsSettledName D.history disk) (D.history disk) (D.history (disk_of result)) }

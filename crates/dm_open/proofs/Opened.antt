@@ -4,10 +4,11 @@ use Rattle.std.specs.Option.{option_map}
 use Rattle.std.proofs.lemmas.List.{append-nil, append_assoc}
 use Rattle.dm_types.specs.Limits.{most_items}
 use Rattle.dm_disk_model.specs.Beside.{Besides}
-use Rattle.dm_disk_model.specs.Disk.{DiskState, Image, History as Clock, IsSoundDisk, MayLeave, StandsNot, bytes_at, folder_in, now}
+use Rattle.dm_disk_model.specs.Disk.{DiskState, Image, History as Clock, IsSoundDisk, MayLeave, StandsNot, bytes_at, folder_in, now, reading}
 use Rattle.dm_disk_model.specs.Folder.{Folder, names_of}
 use Rattle.dm_disk_model.specs.Moments.{KeepsFiles, LeavesOnly, Throughout}
 use Rattle.dm_disk_model.proofs.Beside.{besides_more, besides_same, besides_then}
+use Rattle.dm_disk_model.proofs.Images.{as_read}
 use Rattle.dm_disk_model.proofs.Reaching.{at_end, both, joined, weaker}
 use Rattle.dm_record.specs.Spelling.{spelling_of}
 use Rattle.dm_item.specs.Lawful.{History, items_of}
@@ -38,7 +39,7 @@ use Rattle.dm_find.specs.Reopening.{IsHere}
 use Rattle.dm_find.specs.declared.hindered.Hindered.{Hindered}
 use Rattle.dm_find.proofs.Founds.{was_left}
 use Rattle.dm_settle.specs.Settled.{IsPartOrGiven}
-use Rattle.dm_open.specs.Refused.{KeepsTried, ReadAndTried}
+use Rattle.dm_open.specs.Refused.{KeepsOneOf, KeepsTried, ReadAndTried, RunsOn}
 use Rattle.dm_open.specs.Resuming.{EndsAs, Resumes}
 use Rattle.dm_open.proofs.Resumed.{rests_broken, settlings_earlier, stands_same}
 
@@ -95,6 +96,20 @@ KeptOr tells start end at earlier more recovered = Through earlier more recovere
 -- or to what was kept before
 abbrev pub RunsOr : History → History → History → History → Found → Type 0
 RunsOr kept rest found tried recovered = Through kept rest recovered ⊎ Through found tried recovered
+
+-- From each kept disk it stays kept, at each moment.
+module _ (start end : Clock) (moments : LeavesOnly start end (FindLeaves (now start))) (files : KeepsFiles start end) (sound : IsSoundDisk (now start)) (good : Bool) (says : Says) (earlier more : History) (was : Kept good says (Through earlier more) (now start)) where
+  pub left_recovers : (disk : DiskState) → disk.files ≡ (now start).files → (image : Image) → FindLeaves (now start) image → Recovers good says (Through earlier more) disk.files image
+  left_recovers disk same image (inl left) = subst (λ (f : Folder). Recovers good says (Through earlier more) f image) (sym same) (was image left)
+  left_recovers disk same image (inr nothing) =
+      let read = was (reading (now start)) (as_read (now start) sound) in
+      let none : read.history ≡ [] = records_one (bytes_at (now start) journal_place) read.history [] read.recorded (reads_none (now start) nothing.0) in
+      blank_recovers good says (Through earlier more) (subst (λ (h : History). Through earlier more (recovered h)) none read.items) disk.files image nothing.1
+
+  pub stays_kept : Throughout start end (Kept good says (Through earlier more))
+  stays_kept =
+      weaker start end (λ disk. ((image : Image) → MayLeave disk image → FindLeaves (now start) image) × (disk.files ≡ (now start).files)) (Kept good says (Through earlier more))
+      (λ disk here image left. left_recovers disk here.1 image (here.0 image left)) (both start end (λ disk. (image : Image) → MayLeave disk image → FindLeaves (now start) image) (λ disk. disk.files ≡ (now start).files) moments files)
 
 -- Over the finding of the journal.
 module _ (tells : Type 0) (start mid end : Clock) (at : ℕ) (moments : LeavesOnly start mid (FindLeaves (now start))) (files : KeepsFiles start mid) where
@@ -202,6 +217,15 @@ module _ {D O : Type 0} (tells : Type 0) (clock : D → Clock) (says : O → Say
         (kept_behind told true (record { earlier = kept; more = rest; kept = is })));
   }
 
+  -- at each moment one of the two is kept
+  pub open_on : tells → LeavesOnly (clock start) (clock old.disk) (FindLeaves (now (clock start))) → RunsOn (says old.origin) (clock start) (clock new.disk) found.found all
+  open_on told moments kept rest is =
+      joined (clock start) (clock old.disk) (clock new.disk) (KeepsOneOf (says old.origin) kept rest found.found all)
+      (weaker (clock start) (clock old.disk) (Kept true (says old.origin) (Through kept rest)) (KeepsOneOf (says old.origin) kept rest found.found all) (λ disk k. inl k)
+      (stays_kept (clock start) (clock old.disk) moments (files told) (sound told) true (says old.origin) kept rest is))
+      (weaker (clock old.disk) (clock new.disk) (Kept true (says old.origin) (Through found.found all)) (KeepsOneOf (says old.origin) kept rest found.found all) (λ disk k. inr k)
+      (kept_behind told true (record { earlier = kept; more = rest; kept = is })))
+
   gate_here : new.gate ≡ length (front (bodies_of found.found)) + spelled new.list
   gate_here = let a = resumes.tries.gate_is in let b = found.gate_is in omega (arith, a, b)
 
@@ -243,9 +267,19 @@ module _ {D O : Type 0} (tells : Type 0) (clock : D → Clock) (says : O → Say
       left = resumes.left;
       tried = is_tried all refl;
       runs = λ told. open_runs told (moments told);
+      on = λ told. open_on told (moments told);
       kept = λ told good was. rests_broken new.broken good (says old.origin) (found.found ++ new.list) new.failed new.gate (covers_of new.lives) (now (clock new.disk)) (holds_new told good was).rests;
       near = near_tried;
     }
+
+    -- of an opening that was answered Ok
+    pub opened_on : result ≡ Ok tt → (tells → LeavesOnly (clock start) (clock old.disk) (FindLeaves (now (clock start)))) → tells → (read : History) → Records (bytes_at (now (clock start)) journal_place) read
+        → RunsOn (says old.origin) (clock start) (clock new.disk) read new.list
+    opened_on ok moments told read reads =
+        let ends = subst (EndsAs tells clock says found.found old new resumes.settled resumes.rest resumes.left) ok resumes.ends in
+        let listed : new.list ≡ all = sym (append-nil new.list) ∙ ap (λ (h : History). new.list ++ h) (sym (ap (λ (h : History). h ++ resumes.rest) ends.none_failed ∙ ends.none_rest)) in
+        subst (λ (h : History). RunsOn (says old.origin) (clock start) (clock new.disk) h new.list) (records_one (bytes_at (now (clock start)) journal_place) found.found read (found.reads told) reads)
+        (subst (RunsOn (says old.origin) (clock start) (clock new.disk) found.found) (sym listed) (open_on told (moments told)))
 
     pub is_opened : result ≡ Ok tt → new.limits.items ≡ limit → (tells → LeavesOnly (clock start) (clock old.disk) (FindLeaves (now (clock start)))) → IsOpened tells clock far (says old.origin) start at new
     is_opened ok same moments =

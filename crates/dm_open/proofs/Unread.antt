@@ -24,7 +24,7 @@ use Rattle.dm_answers.specs.Settling.{finishing}
 use Rattle.dm_answers.specs.declared.fault.OpenFault.TheVariants as opens
 use Rattle.dm_find.specs.Finding.{FindFails, FindLeaves, IsUnread}
 use Rattle.dm_open.specs.Refused.{KeepsUnread, NoneRead, StaysDamaged}
-use Rattle.dm_open.proofs.Opened.{RunsOr, blank_recovers, reads_none, through_none}
+use Rattle.dm_open.proofs.Opened.{RunsOr, blank_recovers, stays_kept, through_none}
 use Rattle.dm_open.proofs.Resumed.{rests_broken}
 use Rattle.dm_find.proofs.Founds.{was_left}
 use Rattle.dm_disk_model.proofs.Images.{as_read}
@@ -73,20 +73,6 @@ module _ {D : Type 0} (tells : Type 0) (clock : D → Clock) (far : D → ℕ) (
 
   pub memory_fails : FindFails (clock start) (clock new) limit journals.NoMemory → OpenFails tells clock far says start limit at (opens.NoMemory new)
   memory_fails fails = unread fails
-
--- From each kept disk it stays kept, at each moment.
-module _ (start end : Clock) (moments : LeavesOnly start end (FindLeaves (now start))) (files : KeepsFiles start end) (sound : IsSoundDisk (now start)) (good : Bool) (says : Says) (earlier more : History) (was : Kept good says (Through earlier more) (now start)) where
-  left_recovers : (disk : DiskState) → disk.files ≡ (now start).files → (image : Image) → FindLeaves (now start) image → Recovers good says (Through earlier more) disk.files image
-  left_recovers disk same image (inl left) = subst (λ (f : Folder). Recovers good says (Through earlier more) f image) (sym same) (was image left)
-  left_recovers disk same image (inr nothing) =
-      let read = was (reading (now start)) (as_read (now start) sound) in
-      let none : read.history ≡ [] = records_one (bytes_at (now start) journal_place) read.history [] read.recorded (reads_none (now start) nothing.0) in
-      blank_recovers good says (Through earlier more) (subst (λ (h : History). Through earlier more (recovered h)) none read.items) disk.files image nothing.1
-
-  pub stays_kept : Throughout start end (Kept good says (Through earlier more))
-  stays_kept =
-      weaker start end (λ disk. ((image : Image) → MayLeave disk image → FindLeaves (now start) image) × (disk.files ≡ (now start).files)) (Kept good says (Through earlier more))
-      (λ disk here image left. left_recovers disk here.1 image (here.0 image left)) (both start end (λ disk. (image : Image) → MayLeave disk image → FindLeaves (now start) image) (λ disk. disk.files ≡ (now start).files) moments files)
 
 -- A journal that reads stands at the start, so that none was started.
 stands_left : (start : DiskState) (bytes : List ℕ) → bytes_at start journal_place ≡ Some bytes → (image : Image) → FindLeaves start image → MayLeave start image

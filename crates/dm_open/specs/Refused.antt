@@ -1,13 +1,15 @@
 -- Which of two a refused opening was, over every disk: no journal was read, or one was read whole and what comes behind it was hindered.
-use Rattle.std.specs.Prelude.{◌≡◌, ◌⊎◌, ℕ, ◌≤◌, Bool, true, List, [], ◌++◌, length}
+use Rattle.std.specs.Prelude.{◌≡◌, ◌⊎◌, ℕ, ◌≤◌, Bool, true, List, [], ◌++◌, length, Result, Ok, Err}
 use Rattle.dm_types.specs.declared.item.Item.{Item}
-use Rattle.dm_disk_model.specs.Disk.{History as Clock, MayLeave, now}
+use Rattle.dm_disk_model.specs.Disk.{DiskState, History as Clock, MayLeave, bytes_at, now}
 use Rattle.dm_disk_model.specs.Moments.{KeepsFiles, LeavesOnly, Throughout}
 use Rattle.dm_item.specs.Lawful.{History, IsLawful}
+use Rattle.dm_journal.specs.AtRest.{journal_place}
 use Rattle.dm_kept.specs.Files.{Says}
 use Rattle.dm_kept.specs.Kept.{Kept, WasKept}
 use Rattle.dm_kept.specs.Recovery.{Through}
 use Rattle.dm_kept.specs.Room.{IsTaken}
+use Rattle.dm_kept.specs.Spelled.{Records}
 use Rattle.dm_store.specs.View.{View}
 use Rattle.dm_answers.specs.declared.fault.DeskFault.{DeskFault}
 use Rattle.dm_answers.specs.declared.fault.DeskFault.TheVariants as faults
@@ -28,6 +30,19 @@ pub record StaysDamaged {D : Type 0} (clock : D → Clock) (far : D → ℕ) (st
   pub damaged : IsDamaged clock far start end limit place
   pub moments : LeavesOnly (clock start) (clock end) (MayLeave (now (clock start)))
 
+-- at this moment each crash leaves what is kept at the start; or each leaves what was found, with some of what was tried behind it
+abbrev pub KeepsOneOf : Says → History → History → History → History → DiskState → Type 0
+KeepsOneOf says kept rest found tried disk = Kept true says (Through kept rest) disk ⊎ Kept true says (Through found tried) disk
+
+-- from a kept disk it is so at each moment
+abbrev pub RunsOn : Says → Clock → Clock → History → History → Type 0
+RunsOn says start end found tried = (kept rest : History) → Kept true says (Through kept rest) (now start) → Throughout start end (KeepsOneOf says kept rest found tried)
+
+-- so of an opening that was answered Ok, behind what reads as the journal
+abbrev pub OpensOn : {D O : Type 0} → Type 0 → (D → Clock) → Says → D → Result (View D O) (OpenFault D) → Type 0
+OpensOn tells clock says start (Ok desk) = tells → (found : History) → Records (bytes_at (now (clock start)) journal_place) found → RunsOn says (clock start) (clock desk.disk) found desk.list
+OpensOn tells clock says start (Err fault) = Unit {0}
+
 -- A journal was read whole. What was tried behind it is lawful there: these entries were recorded, then at most one failed, and the rest was never tried. A crash at the end
 -- leaves what was found with all that were recorded, and perhaps with the one that failed.
 pub record ReadAndTried {D : Type 0} (tells : Type 0) (clock : D → Clock) (far : D → ℕ) (says : Says) (start end : D) (limit at : ℕ) (found recorded failed rest : History) : Type 0 where
@@ -37,6 +52,7 @@ pub record ReadAndTried {D : Type 0} (tells : Type 0) (clock : D → Clock) (far
   pub left : List Item
   pub tried : IsTried tells (clock start) (clock end) at found (recorded ++ (failed ++ rest)) left
   pub runs : tells → OpenRuns says (clock start) (clock end) found (recorded ++ (failed ++ rest))
+  pub on : tells → RunsOn says (clock start) (clock end) found (recorded ++ (failed ++ rest))
   pub kept : tells → (good : Bool) → WasKept good says (now (clock start)) → Kept good says (Through (found ++ recorded) failed) (now (clock end))
   pub near : IsNear (found ++ (recorded ++ (failed ++ rest))) (far start) (far end)
 

@@ -8,7 +8,7 @@ ghost use Rattle.dm_store.specs.Store.{IsStore};
 ghost use Rattle.dm_answers.specs.Faults.{open_kind};
 ghost use Rattle.dm_answers.specs.Opening.{OpenAnswers, OpenKeeps, OpenLeaves, disk_of};
 ghost use Rattle.dm_answers.specs.Reads.{IsSettledName, seen};
-ghost use Rattle.dm_open.specs.Refused.{OpenRefuses};
+ghost use Rattle.dm_open.specs.Refused.{OpenRefuses, OpensOn};
 
 use crate::resuming::resume;
 use dm_answers::OpenFault;
@@ -33,6 +33,7 @@ pub fn open<D: Disk, O: Origin>(
     ensures store { IfOk result (IsStore D.tells D.history) }
     ensures answers { OpenAnswers D.tells D.history D.far (said_of (O.says origin)) disk origin limits at (seen result) }
     ensures refused { IfErr result (OpenRefuses D.tells D.history D.far (said_of (O.says origin)) disk limits.items at) }
+    ensures on { OpensOn D.tells D.history (said_of (O.says origin)) disk (seen result) }
     ensures moments { D.tells → Throughout (D.history disk) (D.history (disk_of (seen result))) (OpenLeaves D.tells (D.history disk) (D.history (disk_of (seen result))) at) }
     ensures keeps { D.tells → OpenKeeps D.tells (said_of (O.says origin)) (D.history disk) (D.history (disk_of (seen result))) at }
     ensures beside { D.tells → Besides (IsSettledName D.history disk) (D.history disk) (D.history (disk_of (seen result))) }

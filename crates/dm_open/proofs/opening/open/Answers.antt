@@ -11,7 +11,7 @@ use Rattle.dm_find.specs.Finding.{FindFails}
 use Rattle.dm_find.specs.declared.hindered.Hindered.{Hindered}
 use Rattle.dm_open.specs.Refused.{IsHindered, NoneRead}
 use Rattle.dm_open.specs.Resuming.{EndsAs}
-use Rattle.dm_open.proofs.Opened.{found_keeps, found_opens, is_opened, is_read, open_beside, open_keeps, open_moments, read_and_tried}
+use Rattle.dm_open.proofs.Opened.{found_keeps, found_opens, is_opened, is_read, open_beside, open_keeps, open_moments, opened_on, read_and_tried}
 use Rattle.dm_open.proofs.Unread.{disk_fails, memory_fails, none_read, stays_damaged, unmoved_files, unmoved_leaves}
 use Rattle.dm_open.proofs.opening.open.Goals as goal
 
@@ -204,3 +204,11 @@ returns-in-Err-NoMemory-resume-clause-refused g c =
       record { found = found.found; recorded = (view_of c.resume.new.store).list; failed = (view_of c.resume.new.store).failed; rest = resumes.rest; is = read_and_tried D.tells D.history (λ o. said_of (g.O.Origin.says o)) c.args.disk c.args.at c.args.limits.items old (view_of c.resume.new.store) found c.find_list.ensures.beside c.requires.items.1 (λ told. g.met.D.Disk.sound told c.args.disk (D.history c.args.disk).moment) (Err c.in-Err-NoMemory-resume.field-0) resumes D.far (c.reserve.ensures.items ∙ c.new-list.ensures.items) c.find_list.ensures.far c.resume.ensures.far c.find_list.ensures.moments },
       (subst (λ (f : Hindered). EndsAs D.tells D.history (λ o. said_of (g.O.Origin.says o)) found.found old (view_of c.resume.new.store) resumes.settled resumes.rest resumes.left (Err f)) c.in-Err-NoMemory-resume.field-0-is resumes.ends).1,
     ))
+
+pub returns-in-Ok-resume-clause-on : goal.returns-in-Ok-resume-clause-on
+returns-in-Ok-resume-clause-on g c told read reads =
+    let D = g.D.Disk in
+    let found = c.in-Ok-find_list.ensures.found in
+    let old : View g.row.D.Denot g.row.O.Denot = (record { disk = c.find_list.new.disk; origin = c.args.origin; limits = c.args.limits; items = c.in-Ok-find_list.found.items; lives = c.new-lives.result.items; gate = c.in-Ok-find_list.found.journal; broken = true; list = c.reserve.new.self.items; failed = [] }) in
+    let resumes = c.in-Ok-resume.ensures.makes found.found found.list in
+    opened_on D.tells D.history (λ o. said_of (g.O.Origin.says o)) c.args.disk c.args.at c.args.limits.items old (view_of c.resume.new.store) found c.find_list.ensures.beside c.requires.items.1 (λ told. g.met.D.Disk.sound told c.args.disk (D.history c.args.disk).moment) (Ok c.in-Ok-resume.field-0) resumes D.far (c.reserve.ensures.items ∙ c.new-list.ensures.items) c.find_list.ensures.far c.resume.ensures.far refl c.find_list.ensures.moments told read reads
