@@ -1,10 +1,8 @@
 -- The lane that asking for a part gives.
-use Rattle.std.proofs.Common.{◌≡◌, ◌≢◌, ◌⊎◌, inl, inr, ◌<◌, ◌≤◌, ℕ, ◌+◌, ◌-◌, arith, List, [], ◌++◌, Option, Some, None, true, false, IsTrue, refl, sym, ◌∙◌, ap, subst}
+use Rattle.std.proofs.Common.{◌≡◌, ◌≢◌, ◌⊎◌, inl, inr, ◌<◌, ℕ, ◌-◌, arith, List, [], ◌++◌, Some, true, false, IsTrue, refl, sym, ◌∙◌, ap, subst}
 use Rattle.std.proofs.lemmas.Bool.{false≢true}
 use Rattle.std.proofs.lemmas.List.{append-nil}
 use Rattle.dm_types.specs.declared.address.Address.{Address}
-use Rattle.dm_types.specs.declared.item.Key.{Key}
-use Rattle.dm_types.specs.declared.item.Key.TheVariants.{Strong}
 use Rattle.dm_policy.specs.declared.cause.Cause.{Cause}
 use Rattle.dm_edge.specs.declared.fault.WireFault.{WireFault}
 use Rattle.dm_edge.specs.declared.wanted.Wanted.{Wanted}
@@ -30,7 +28,7 @@ use Rattle.dm_attempt.specs.Asking.{Asking, range_of}
 use Rattle.dm_attempt.specs.Ends.{empty_share}
 use Rattle.dm_attempt.specs.Shares.{Share}
 use Rattle.dm_rounds.specs.declared.lane.Lane.{Lane}
-use Rattle.dm_rounds.specs.Lanes.{HasGiven, read}
+use Rattle.dm_rounds.specs.Lanes.{read}
 use Rattle.dm_rounds.specs.Parts.{AsksOf, IsHeardLane, IsNewLane}
 use Rattle.dm_rounds.specs.Reading.{IsTurn}
 

@@ -1,5 +1,5 @@
 -- How an attempt stops by the causes of a content.
-use Rattle.std.proofs.Common.{◌≡◌, ◌≢◌, ◌<◌, ◌≤◌, ℕ, List, Bool, true, false, Option, Some, None, IsTrue, refl, sym, ◌∙◌, ap, arith}
+use Rattle.std.proofs.Common.{◌<◌, ◌≤◌, ℕ, List, Option, IsTrue, refl, sym, ◌∙◌, ap, arith}
 use Rattle.std.specs.Prelude.{IfSome}
 use Rattle.std.proofs.lemmas.Bool.{false≢true}
 use Rattle.std.proofs.lemmas.Option.{IfSome_then}

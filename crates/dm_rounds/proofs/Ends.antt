@@ -19,11 +19,11 @@ use Rattle.dm_rounds.specs.Lanes.{Brought, IsLeft, IsRead, InRound, IsWholeRound
 use Rattle.dm_rounds.proofs.Totals.{total_append, weaker_each, append_each}
 
 -- one of the connections has the number
-record Found (P : Carried → Type 0) (wires : List Carried) (n : ℕ) : Type 0 where
-  c : Carried
-  among : Contains wires c
-  number : c.part.index ≡ n
-  holds : P c
+pub record Found (P : Carried → Type 0) (wires : List Carried) (n : ℕ) : Type 0 where
+  pub c : Carried
+  pub among : Contains wires c
+  pub number : c.part.index ≡ n
+  pub holds : P c
 
 found_later : (P : Carried → Type 0) (wires : List Carried) (n : ℕ) (first : Carried) → Found P wires n → Found P (first ∷ wires) n
 found_later P wires n first found = record {
@@ -33,14 +33,14 @@ found_later P wires n first found = record {
   holds = found.holds;
 }
 
-find : (P : Carried → Type 0) (wires : List Carried) (n : ℕ) → 1 ≤ total (is_of n) wires → AllByRecursion P wires → Found P wires n
+pub find : (P : Carried → Type 0) (wires : List Carried) (n : ℕ) → 1 ≤ total (is_of n) wires → AllByRecursion P wires → Found P wires n
 find P [] n some all = absurd (omega (arith, some))
 find P (c ∷ wires) n some all = elim (eqb_tells c.part.index n) [
   | inl same ↦ record { c = c; among = (0, omega arith, refl); number = same.1; holds = all.0 }
   | inr other ↦ found_later P wires n c (find P wires n (omega (arith, some, ap {B = ℕ} (λ b. cond b 1 0) other.0)) all.1)
 ]
 
-same_share : (shares : List Share) (n : ℕ) (a b : Share) → slice_get shares n ≡ Some a → slice_get shares n ≡ Some b → a ≡ b
+pub same_share : (shares : List Share) (n : ℕ) (a b : Share) → slice_get shares n ≡ Some a → slice_get shares n ≡ Some b → a ≡ b
 same_share shares n a b at_a at_b = sym (get_or_from_slice_get shares n a a at_a) ∙ get_or_from_slice_get shares n b a at_b
 
 pub whole_round : {W : Type 0} (net tells : Type 0) (made_for : W → Purpose) (told : W → Told) (asking : Asking) (start now : List Closed) (shares : List Share) (lanes : List (Lane W)) → lanes ≡ []

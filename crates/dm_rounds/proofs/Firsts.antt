@@ -1,5 +1,5 @@
 -- The first plan of a content of which nothing is there.
-use Rattle.std.proofs.Common.{◌≡◌, ◌⊎◌, inl, inr, ◌<◌, ◌≤◌, ℕ, ◌+◌, ◌-◌, zero, suc, false, List, [], ◌∷◌, ◌++◌, length, map, Option, Some, None, refl, sym, ◌∙◌, ap, subst, arith}
+use Rattle.std.proofs.Common.{◌≡◌, inl, inr, ◌<◌, ◌≤◌, ℕ, ◌+◌, ◌-◌, zero, suc, false, List, [], ◌∷◌, ◌++◌, length, map, Option, Some, None, refl, sym, ◌∙◌, ap, subst, arith}
 use Rattle.std.specs.Prelude.{◌/◌, ◌^◌, slice_get}
 use Rattle.std.proofs.Math.Nat.{div-le_self}
 use Rattle.std.proofs.lemmas.Bool.{cases_lt}
@@ -7,7 +7,7 @@ use Rattle.dm_types.specs.declared.slices.Slice.{Slice}
 use Rattle.dm_item.specs.Fields.{no_bytes}
 use Rattle.dm_item.specs.History.{get}
 use Rattle.dm_slice.specs.Cover.{marked, normal_of}
-use Rattle.dm_slice.specs.Plan.{Run, cuts, groups, holes, numbered, all_of, opened, opened_by, opened_of, parts_by, plan_of, run, share, stop_of}
+use Rattle.dm_slice.specs.Plan.{Run, cuts, groups, numbered, all_of, opened, opened_by, parts_by, plan_of, run, share}
 use Rattle.dm_slice.specs.Words.{IsFirstMissing, cover_end, end_of}
 use Rattle.dm_slice.specs.declared.plan.Part.{Part}
 use Rattle.dm_slice.proofs.Opened.{share-some}

@@ -1,6 +1,5 @@
 -- What a turn leaves of the attempt.
-use Rattle.std.proofs.Common.{◌≡◌, ◌<◌, ◌≤◌, ℕ, ◌+◌, List, [], ◌∷◌, ◌++◌, length, take, map, Some, Result, Ok, Err, IsTrue, refl, sym, ◌∙◌, ap, subst, arith}
-use Rattle.std.specs.Prelude.{slice_get}
+use Rattle.std.proofs.Common.{◌≡◌, ◌≤◌, ℕ, ◌+◌, List, ◌++◌, length, take, Ok, Err, refl, sym, ◌∙◌, ap, subst}
 use Rattle.std.proofs.lemmas.Option.{same_Some}
 use Rattle.dm_types.specs.declared.item.Item.{Item}
 use Rattle.dm_types.specs.declared.item.Key.{Key}
@@ -9,15 +8,11 @@ use Rattle.dm_types.specs.declared.slices.Slice.{Slice}
 use Rattle.dm_types.specs.declared.address.Address.{Address}
 use Rattle.dm_disk_model.specs.Disk.{History as Clock}
 use Rattle.dm_policy.specs.declared.cause.Cause.{Cause}
-use Rattle.dm_policy.specs.declared.cause.Cause.TheVariants as causes
-use Rattle.dm_edge.specs.declared.wanted.Wanted.{Wanted}
 use Rattle.dm_edge.specs.Fair.{IsHonest}
-use Rattle.dm_edge.specs.Reply.{ContentBroke}
-use Rattle.dm_edge.specs.Wire.{Purpose, Told, stream_of}
+use Rattle.dm_edge.specs.Wire.{Purpose, Told}
 use Rattle.dm_reply.specs.declared.got.Got.TheVariants.{Bytes, End}
 use Rattle.dm_reply.specs.Content.{EndsAll}
 use Rattle.dm_slice.specs.declared.plan.Part.{Part}
-use Rattle.dm_item.specs.Listing.{item_in}
 use Rattle.dm_kept.specs.Files.{Says}
 use Rattle.dm_store.specs.Origin.{said_of}
 use Rattle.dm_store.specs.View.{View}
@@ -37,8 +32,8 @@ use Rattle.dm_attempt.proofs.Sharing.{grows}
 use Rattle.dm_rounds.specs.declared.lane.Lane.{Lane}
 use Rattle.dm_rounds.specs.declared.lane.Turn.{Turn}
 use Rattle.dm_rounds.specs.declared.lane.Turn.TheVariants.{Whole}
-use Rattle.dm_rounds.specs.Lanes.{HasGiven, IsLeft, LaneBroke, LaneStops, PieceMoves, PieceSays, TurnIs, TurnSays, most_given, stop_met, told_count}
-use Rattle.dm_rounds.specs.Reading.{HasRound, IsTurn, MayTurn, TurnGoes, TurnLeaves, TurnStops, live_round}
+use Rattle.dm_rounds.specs.Lanes.{HasGiven, LaneBroke, LaneStops, PieceMoves, PieceSays, TurnIs, TurnSays, most_given, stop_met, told_count}
+use Rattle.dm_rounds.specs.Reading.{HasRound, IsTurn, TurnLeaves, live_round}
 use Rattle.dm_rounds.proofs.Causes.{by_cause}
 use Rattle.dm_rounds.proofs.Saying.{said_piece}
 use Rattle.dm_rounds.proofs.Turns.{broke_left, end_full, landed_says, lane_broke, refused_left}

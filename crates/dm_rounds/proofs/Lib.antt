@@ -16,3 +16,8 @@ pub mod Losing
 pub mod Onward
 pub mod Begins
 pub mod Firsts
+pub mod Serves
+pub mod Alone
+pub mod Anew
+pub mod Bringing
+pub mod Taking

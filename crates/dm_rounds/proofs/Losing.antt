@@ -1,10 +1,10 @@
 -- Why a round was given up, as the attempt's connections show it.
-use Rattle.std.proofs.Common.{◌≡◌, ◌≢◌, ◌⊎◌, inl, inr, ◌<◌, ◌≤◌, ℕ, ◌+◌, zero, suc, List, [], ◌∷◌, ◌++◌, length, map, Some, refl, sym, ◌∙◌, ap, subst, arith, append_assoc}
+use Rattle.std.proofs.Common.{◌≡◌, ◌≢◌, ◌⊎◌, inl, inr, ℕ, zero, suc, List, [], ◌∷◌, ◌++◌, length, map, Some, refl, sym, ap, subst, arith}
 use Rattle.std.specs.Prelude.{slice_get}
 use Rattle.std.specs.List.{Contains}
 use Rattle.std.proofs.lemmas.Option.{same_Some}
-use Rattle.std.proofs.lemmas.List.Elements.{Contains-append_left, Contains-append_right}
-use Rattle.dm_types.specs.Faults.{NoneFell, Rose}
+use Rattle.std.proofs.lemmas.List.Elements.{Contains-append_right}
+use Rattle.dm_types.specs.Faults.{NoneFell}
 use Rattle.dm_policy.specs.declared.cause.Cause.{Cause}
 use Rattle.dm_policy.specs.declared.cause.Cause.TheVariants as causes
 use Rattle.dm_edge.specs.declared.fault.NetFault.{NetFault}
@@ -22,7 +22,7 @@ use Rattle.dm_store.specs.declared.pass.Pass.{Pass}
 use Rattle.dm_attempt.specs.Ends.{empty_share}
 use Rattle.dm_attempt.specs.Shares.{Share}
 use Rattle.dm_attempt.specs.Trace.{Trace, connections_of}
-use Rattle.dm_rounds.specs.Trail.{HeadShows, NetShowsIt}
+use Rattle.dm_rounds.specs.Trail.{NetShowsIt}
 use Rattle.dm_rounds.proofs.Causes.{rose_longer}
 
 -- of a part of which nothing was landed there are no bytes

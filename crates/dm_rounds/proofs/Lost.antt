@@ -1,5 +1,5 @@
 -- What asking for the parts of a round leaves: all lanes, or a round that is given up.
-use Rattle.std.proofs.Common.{◌≡◌, ◌≢◌, ◌⊎◌, inl, inr, ◌<◌, ◌≤◌, ◌==◌, ℕ, ◌+◌, cond, List, [], ◌∷◌, ◌++◌, length, map, drop, take, Some, refl, sym, ◌∙◌, ap, subst, arith, append_assoc}
+use Rattle.std.proofs.Common.{◌≡◌, ◌≢◌, inl, inr, ◌<◌, ◌≤◌, ◌==◌, ℕ, cond, List, [], ◌∷◌, ◌++◌, length, map, drop, refl, sym, ◌∙◌, ap, subst, arith, append_assoc}
 use Rattle.std.specs.Prelude.{slice_get}
 use Rattle.std.specs.List.{AllByRecursion}
 use Rattle.std.proofs.lemmas.Bool.{cases_lt}
@@ -10,7 +10,6 @@ use Rattle.dm_types.specs.declared.address.Address.{Address}
 use Rattle.dm_policy.specs.declared.cause.Cause.{Cause}
 use Rattle.dm_policy.specs.declared.cause.Cause.TheVariants as causes
 use Rattle.dm_edge.specs.declared.fault.NetFault.{NetFault}
-use Rattle.dm_edge.specs.declared.wanted.Wanted.{Wanted}
 use Rattle.dm_edge.specs.Fair.{ask_of}
 use Rattle.dm_edge.specs.Wire.{Purpose, Told, Closed}
 use Rattle.dm_request.specs.Request.{request_of}
@@ -38,7 +37,7 @@ use Rattle.dm_rounds.proofs.Ends.{carried_each, carried_of, connections, counts}
 use Rattle.dm_rounds.proofs.Opens.{zero_at}
 use Rattle.dm_rounds.proofs.Totals.{append_each, total_append, weaker_each}
 
-drop_all : (xs ys : List Closed) → drop (length xs) (xs ++ ys) ≡ ys
+pub drop_all : (xs ys : List Closed) → drop (length xs) (xs ++ ys) ≡ ys
 drop_all [] ys = refl
 drop_all (x ∷ xs) ys = drop_all xs ys
 

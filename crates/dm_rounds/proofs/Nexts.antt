@@ -1,5 +1,5 @@
 -- The next round of an attempt, open or given up.
-use Rattle.std.proofs.Common.{◌≡◌, ◌⊎◌, inl, inr, ◌<◌, ℕ, ◌+◌, zero, suc, List, [], ◌∷◌, length, map, get_or, Some, Ok, Err, refl, sym, ◌∙◌, ap, subst, arith}
+use Rattle.std.proofs.Common.{◌≡◌, inl, ◌<◌, ℕ, ◌+◌, zero, suc, List, [], ◌∷◌, length, map, get_or, Some, Ok, Err, refl, sym, ◌∙◌, ap, subst, arith}
 use Rattle.std.specs.Prelude.{slice_get}
 use Rattle.std.proofs.lemmas.List.{length-map}
 use Rattle.dm_types.specs.declared.item.Attempt.{Attempt}
@@ -17,7 +17,6 @@ use Rattle.dm_answers.specs.Plan.{last_round, slice_pass}
 use Rattle.dm_answers.specs.Slices.{part_of}
 use Rattle.dm_answers.specs.declared.answer.SlicePass.{SlicePass}
 use Rattle.dm_attempt.specs.declared.source.Source.{Source}
-use Rattle.dm_attempt.specs.declared.stop.Going.{Going}
 use Rattle.dm_attempt.specs.declared.stop.Stop.{Stop}
 use Rattle.dm_attempt.specs.declared.stop.Stop.TheVariants as stops
 use Rattle.dm_attempt.specs.Asking.{Asking}
@@ -58,7 +57,7 @@ asked_all asking source pass asks round parts numbers k d short = record {
 
 module _ {D O : Type 0} (tells : Type 0) (clock : D → Clock) (says : O → Says) (far : D → ℕ) (counts : D → DiskKind → ℕ) (scene : Scene D O) (pass : Pass) (present : View D O) (trace : Trace) (asking : Asking) where
   module _ (passes : List SlicePass) (planned : PlanLeaves tells clock says far counts scene pass present trace asking (Ok passes)) where
-    numbers : AreNumbered 0 (next_parts scene trace)
+    pub numbers : AreNumbered 0 (next_parts scene trace)
     numbers = subst (AreNumbered 0) (empty_parts (next_parts scene trace)) planned.2.planned.placed.0
 
     pub next_asked : (source : Source) → AsksAll asking source pass → AreAsked asking source pass (next_shares scene trace) 0 passes

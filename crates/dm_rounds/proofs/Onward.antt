@@ -1,5 +1,5 @@
 -- The next round of an attempt behind those that were read: it is opened, or given up.
-use Rattle.std.proofs.Common.{◌≡◌, ◌≢◌, ◌⊎◌, inl, inr, ◌<◌, ◌≤◌, ℕ, ◌+◌, List, [], ◌∷◌, ◌++◌, length, map, Option, Some, Result, Ok, Err, refl, sym, ◌∙◌, ap, subst, arith, append_assoc}
+use Rattle.std.proofs.Common.{◌≡◌, ◌⊎◌, inl, inr, ℕ, ◌+◌, List, [], ◌∷◌, ◌++◌, length, map, Option, Result, Ok, Err, refl, sym, ◌∙◌, ap, subst, arith, append_assoc}
 use Rattle.std.specs.List.{Contains}
 use Rattle.std.proofs.lemmas.List.Elements.{Contains-append_left, Contains-append_right}
 use Rattle.dm_types.specs.Faults.{NoneFell}
@@ -28,7 +28,7 @@ use Rattle.dm_rounds.specs.declared.lane.Lane.{Lane}
 use Rattle.dm_rounds.specs.Lanes.{NetCounts}
 use Rattle.dm_rounds.specs.Opened.{LosesRound}
 use Rattle.dm_rounds.specs.Parts.{StopsAsking}
-use Rattle.dm_rounds.specs.Reading.{IsKeyed, IsReading, closed_before, live_round}
+use Rattle.dm_rounds.specs.Reading.{IsKeyed, IsReading, closed_before}
 use Rattle.dm_rounds.specs.Rounding.{LostOpens, NoneOpens, RoundOpens, next_shares}
 use Rattle.dm_rounds.specs.Running.{IsRunning, later_asking}
 use Rattle.dm_rounds.specs.Trail.{AreRead, AreUsedUp, GoesFrom, IsShown, RunEnds, RunLeaves, RunStops, WasCut, asking_behind}

@@ -1,11 +1,9 @@
 -- One lane more.
-use Rattle.std.proofs.Common.{◌≡◌, ◌≢◌, ◌⊎◌, inl, inr, ◌<◌, ◌≤◌, ◌==◌, ℕ, ◌+◌, cond, List, [], ◌∷◌, ◌++◌, length, Some, refl, sym, ◌∙◌, ap, subst, arith}
-use Rattle.std.specs.Prelude.{slice_get}
-use Rattle.std.specs.List.{AllByRecursion}
+use Rattle.std.proofs.Common.{◌≡◌, ◌≢◌, inl, inr, ◌<◌, ◌==◌, ℕ, ◌+◌, cond, List, [], ◌∷◌, ◌++◌, ◌∙◌, ap, arith}
 use Rattle.std.proofs.lemmas.Bool.Decides.{eqb_tells}
 use Rattle.dm_edge.specs.Wire.{Purpose, Told}
 use Rattle.dm_attempt.specs.Asking.{Asking}
-use Rattle.dm_attempt.specs.Shares.{Share, total}
+use Rattle.dm_attempt.specs.Shares.{Share}
 use Rattle.dm_rounds.specs.declared.lane.Lane.{Lane}
 use Rattle.dm_rounds.specs.Lanes.{is_at}
 use Rattle.dm_rounds.specs.Opening.{HasLanes}

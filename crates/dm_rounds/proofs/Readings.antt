@@ -1,5 +1,5 @@
 -- What a turn of one lane leaves of the reading of a round.
-use Rattle.std.proofs.Common.{◌≡◌, ◌<◌, ◌≤◌, ℕ, ◌+◌, List, [], ◌∷◌, ◌++◌, length, get_or, set, map, Result, Ok, Err, refl, sym, ◌∙◌, ap, subst, arith}
+use Rattle.std.proofs.Common.{◌≡◌, ◌<◌, ℕ, List, [], ◌∷◌, ◌++◌, length, get_or, set, Result, Ok, Err, refl, sym, ◌∙◌, subst, arith}
 use Rattle.std.specs.List.{AllByRecursion, remove}
 use Rattle.std.proofs.lemmas.List.{length-set, get_or-set_same}
 use Rattle.dm_types.specs.declared.kinds.DiskKind.{DiskKind}
@@ -18,7 +18,7 @@ use Rattle.dm_attempt.specs.Trace.{Trace, with_saves}
 use Rattle.dm_rounds.specs.declared.lane.Lane.{Lane}
 use Rattle.dm_rounds.specs.declared.lane.Turn.TheVariants.{More, Whole}
 use Rattle.dm_rounds.specs.Lanes.{IsLeft, IsReady, LaneAsks, Closes}
-use Rattle.dm_rounds.specs.Reading.{IsReading, IsTurn, MayRead, MayTurn, ReadLeaves, ReadStops, ReadsOn, RoundGoes, RoundLeaves, RoundStops, TurnGoes, TurnStops, closed_before}
+use Rattle.dm_rounds.specs.Reading.{IsReading, IsTurn, MayRead, MayTurn, ReadLeaves, ReadStops, ReadsOn, RoundLeaves, TurnGoes, TurnStops, closed_before}
 use Rattle.dm_rounds.proofs.Ends.{cut_round, cut_shown, whole_round}
 use Rattle.dm_rounds.proofs.Rounds.{few_rest, few_set, known_at, ready_at, ready_rest, ready_set, round_close, round_set, stop_set}
 use Rattle.dm_rounds.proofs.Totals.{at_each, remove_each, set_each, weaker_each}

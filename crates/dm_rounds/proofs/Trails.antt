@@ -1,6 +1,6 @@
 -- What a round makes of an attempt, with its connections.
-use Rattle.std.proofs.Common.{◌≡◌, ◌⊎◌, inl, inr, ◌<◌, ◌≤◌, ℕ, ◌+◌, List, [], ◌∷◌, ◌++◌, length, map, Bool, true, false, Some, Result, Ok, Err, refl, sym, ◌∙◌, ap, subst, arith, append_assoc}
-use Rattle.std.specs.Prelude.{IsSome, slice_get}
+use Rattle.std.proofs.Common.{◌≡◌, inr, ◌<◌, ℕ, ◌+◌, List, [], ◌∷◌, ◌++◌, length, map, Bool, true, false, Result, Ok, Err, refl, sym, ◌∙◌, ap, subst, arith, append_assoc}
+use Rattle.std.specs.Prelude.{IsSome}
 use Rattle.std.specs.List.{AllByRecursion}
 use Rattle.std.proofs.lemmas.List.{append-nil}
 use Rattle.std.proofs.lemmas.Option.{slice_get_within}
@@ -23,11 +23,11 @@ use Rattle.dm_attempt.specs.Live.{LiveDesk}
 use Rattle.dm_attempt.specs.Scene.{Scene, cover_by}
 use Rattle.dm_attempt.specs.Shares.{Share, total}
 use Rattle.dm_attempt.specs.Trace.{Carried, Round, Trace, wires_of, with_saves}
-use Rattle.dm_rounds.specs.Lanes.{IsCarried, IsCutRound, IsRead, IsWholeRound, NetCounts, SomeBroke, is_of}
+use Rattle.dm_rounds.specs.Lanes.{IsCarried, IsRead, NetCounts, SomeBroke, is_of}
 use Rattle.dm_rounds.specs.Opened.{WasTried}
 use Rattle.dm_rounds.specs.Reading.{IsKeyed, RoundGoes, RoundStops, closed_before, live_round}
-use Rattle.dm_rounds.specs.Running.{IsShort, ReadsOne}
-use Rattle.dm_rounds.specs.Trail.{AreCut, AreRead, ContentShows, GoesFrom, IsShown, RunStops, WasCut, WasRead, asking_behind}
+use Rattle.dm_rounds.specs.Running.{ReadsOne}
+use Rattle.dm_rounds.specs.Trail.{AreCut, AreRead, ContentShows, GoesFrom, IsShown, RunStops, WasCut, asking_behind}
 use Rattle.dm_rounds.proofs.Lost.{tried_of}
 use Rattle.dm_rounds.proofs.Totals.{weaker_each}
 use Rattle.dm_rounds.proofs.Wired.{holds_wired, live_wired, opened_with, wired}

@@ -1,8 +1,7 @@
 -- What a turn of a lane leaves.
-use Rattle.std.proofs.Common.{◌≡◌, ◌⊎◌, inl, inr, ◌<◌, ◌≤◌, ℕ, ◌+◌, List, [], ◌++◌, true, false, length, take, Option, None, Some, Ok, Err, refl, sym, ◌∙◌, ap, subst, arith, length-append}
+use Rattle.std.proofs.Common.{◌≡◌, ◌⊎◌, inl, inr, ◌<◌, ◌≤◌, ℕ, ◌+◌, List, [], ◌++◌, true, false, length, take, Option, Some, Ok, Err, refl, sym, ◌∙◌, ap, subst, arith, length-append}
 use Rattle.std.specs.Prelude.{IfSome, slice_get}
 use Rattle.std.proofs.lemmas.List.{append-nil, length-take-le}
-use Rattle.httparse.specs.Grammar.{ResponseHead}
 use Rattle.dm_policy.specs.declared.cause.Cause.{Cause}
 use Rattle.dm_edge.specs.declared.wanted.Wanted.{Wanted}
 use Rattle.dm_edge.specs.declared.wanted.Wanted.TheVariants.{Whole}

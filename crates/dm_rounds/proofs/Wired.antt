@@ -1,5 +1,5 @@
 -- The newest round of an attempt with its connections.
-use Rattle.std.proofs.Common.{◌≡◌, ◌⊎◌, inl, inr, ℕ, List, [], ◌∷◌, ◌++◌, Option, refl, sym, ◌∙◌, ap, subst}
+use Rattle.std.proofs.Common.{◌≡◌, inl, inr, ℕ, List, [], ◌∷◌, ◌++◌, Option, refl, sym, ap, subst}
 use Rattle.std.specs.List.{AllByRecursion}
 use Rattle.dm_types.specs.declared.kinds.DiskKind.{DiskKind}
 use Rattle.dm_types.specs.declared.slices.Slice.{Slice}
@@ -16,9 +16,9 @@ use Rattle.dm_answers.specs.declared.fault.DeskFault.TheVariants as faults
 use Rattle.dm_attempt.specs.declared.stop.Stop.{Stop}
 use Rattle.dm_attempt.specs.declared.stop.Stop.TheVariants as stops
 use Rattle.dm_attempt.specs.Ending.{IsDeskCause, StopHolds}
-use Rattle.dm_attempt.specs.Live.{DeskOver, IsPlanned, IsTraced, LiveDesk}
+use Rattle.dm_attempt.specs.Live.{DeskOver, IsPlanned, LiveDesk}
 use Rattle.dm_attempt.specs.Scene.{Scene, begun_by, told_by}
-use Rattle.dm_attempt.specs.Shows.{BeginMet, DeskDone, DeskFell, DeskMet, FileMet, NoCause, ShowsClose}
+use Rattle.dm_attempt.specs.Shows.{BeginMet, DeskDone, DeskFell, DeskMet, NoCause, ShowsClose}
 use Rattle.dm_attempt.specs.Stops.{FaultLeaves}
 use Rattle.dm_attempt.specs.Trace.{ArePlanned, Broken, Carried, Close, Done, IsSave, Round, Trace, WereRounds, cover_of, opened, with_saves}
 

@@ -1,5 +1,5 @@
 -- How an attempt takes its first reply: it is told to the desk, and the first round is planned.
-use Rattle.std.specs.Prelude.{◌≡◌, ◌⊎◌, ℕ, List, [], length, Option, Some, None, Result, Ok, Err}
+use Rattle.std.specs.Prelude.{◌≡◌, ◌⊎◌, ℕ, List, Result, Ok, Err}
 use Rattle.dm_types.specs.declared.address.Address.{Address}
 use Rattle.dm_types.specs.declared.item.Key.{Key}
 use Rattle.dm_types.specs.declared.kinds.DiskKind.{DiskKind}

@@ -1,5 +1,5 @@
 -- A lane, and a round of lanes.
-use Rattle.std.specs.Prelude.{◌≡◌, ◌≢◌, ◌⊎◌, ◌<◌, ◌≤◌, ◌==◌, ℕ, ◌+◌, ◌-◌, Bool, true, false, cond, nat_lt, List, [], ◌∷◌, ◌++◌, length, map, take, slice_get, Option, Some, None, Result, Ok, Err, IfSome, IsTrue}
+use Rattle.std.specs.Prelude.{◌≡◌, ◌≢◌, ◌⊎◌, ◌<◌, ◌≤◌, ◌==◌, ℕ, ◌+◌, ◌-◌, Bool, true, false, cond, List, ◌++◌, length, map, take, slice_get, Option, Some, None, Result, Ok, Err, IfSome, IsTrue}
 use Rattle.std.specs.List.{AllByRecursion, Contains}
 use Rattle.httparse.specs.Grammar.{ResponseHead}
 use Rattle.dm_types.specs.Faults.{Rose}
@@ -22,7 +22,6 @@ use Rattle.dm_reply.specs.declared.got.Got.TheVariants.{Bytes, End}
 use Rattle.dm_reply.specs.Content.{Reader, HasRead, counted_of, first_some}
 use Rattle.dm_reply.specs.Faults.{cause_kind}
 use Rattle.dm_reply.specs.Steps.{least_of}
-use Rattle.dm_slice.specs.declared.plan.Part.{Part}
 use Rattle.dm_attempt.specs.declared.stop.Stop.{Stop}
 use Rattle.dm_attempt.specs.declared.stop.Stop.TheVariants as stops
 use Rattle.dm_attempt.specs.Asking.{Asking, IsAsked}

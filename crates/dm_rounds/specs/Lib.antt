@@ -9,3 +9,4 @@ pub mod Trail
 pub mod Running
 pub mod First
 pub mod Beginning
+pub mod Serving

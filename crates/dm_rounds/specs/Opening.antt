@@ -4,7 +4,6 @@ use Rattle.std.specs.List.{AllByRecursion}
 use Rattle.dm_types.specs.Faults.{NoneFell}
 use Rattle.dm_edge.specs.declared.fault.NetFault.{NetFault}
 use Rattle.dm_edge.specs.Wire.{Purpose, Told, Closed}
-use Rattle.dm_slice.specs.declared.plan.Part.{Part}
 use Rattle.dm_store.specs.declared.pass.Pass.{Pass}
 use Rattle.dm_answers.specs.Slices.{part_of}
 use Rattle.dm_answers.specs.declared.answer.SlicePass.{SlicePass}

@@ -1,5 +1,5 @@
 -- All rounds of an attempt: how they ask, which connections they had, and how one more attempt of them stops.
-use Rattle.std.specs.Prelude.{◌≡◌, ◌≢◌, ◌⊎◌, ◌<◌, ◌≤◌, ℕ, List, [], ◌∷◌, ◌++◌, length, slice_get, Option, Some, None, true, false, Result, Ok, Err, IfSome}
+use Rattle.std.specs.Prelude.{◌≡◌, ◌≢◌, ◌⊎◌, ◌<◌, ◌≤◌, ℕ, List, [], ◌∷◌, ◌++◌, length, slice_get, Some, true, false, Result, Ok, Err, IfSome}
 use Rattle.std.specs.List.{AllByRecursion, Contains}
 use Rattle.dm_types.specs.Faults.{Rose}
 use Rattle.dm_types.specs.declared.item.Key.TheVariants.{Strong}

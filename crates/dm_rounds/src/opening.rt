@@ -22,7 +22,7 @@ use dm_store::Pass;
 use std::alloc::Global;
 
 /// The part that a pass is of.
-fn part_of(slice: &SlicePass) -> Part
+pub fn part_of(slice: &SlicePass) -> Part
     ensures { result ≡ slices.part_of slice.now }
 {
     Part {

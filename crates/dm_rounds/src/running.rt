@@ -21,7 +21,7 @@ use dm_store::Pass;
 use std::alloc::Global;
 
 /// Reads a round to its end, and ends the attempt where all came.
-fn read_one<S: Desk, N: Net<O = S::O>>(
+pub fn read_one<S: Desk, N: Net<O = S::O>>(
     desk: &mut S,
     net: &mut N,
     going: &Going,
@@ -139,7 +139,7 @@ fn next_of(going: &Going) -> Going
 }
 
 /// The first round of an attempt.
-fn first_of(pass: &Pass) -> Going
+pub fn first_of(pass: &Pass) -> Going
     ensures { result ≡ record { pass = pass.now; round = 1 } }
 {
     Going {

@@ -1,8 +1,8 @@
 use Rattle.dm_request.specs.Request.{request_of}
-use Rattle.std.proofs.Common.{◌≡◌, List, true, inl, inr, refl, sym, ◌∙◌, subst, arith}
+use Rattle.std.proofs.Common.{true, refl, sym, ◌∙◌, subst, arith}
 use Rattle.dm_edge.specs.declared.wanted.Wanted.{Wanted}
 use Rattle.dm_edge.specs.Fair.{ask_of, IsOrdered}
-use Rattle.dm_ask.specs.Asked.{IsReached, IsReady}
+use Rattle.dm_ask.specs.Asked.{IsReached}
 use Rattle.dm_ask.specs.Following.{IsAnswered, IsPart, IsStopped}
 use Rattle.dm_ask.specs.Redirects.{purpose_of}
 use Rattle.dm_rounds.proofs.Asks.{ask_met, heard_lane, new_turn, none_closed}

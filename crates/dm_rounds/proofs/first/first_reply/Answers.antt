@@ -1,4 +1,3 @@
-use Rattle.std.proofs.Common.{◌≡◌, List, inl, inr, refl}
 use Rattle.dm_rounds.proofs.Asks.{ask_met}
 use Rattle.dm_rounds.proofs.first.first_reply.Goals as goal
 

@@ -1,9 +1,7 @@
-use Rattle.std.proofs.Common.{◌≡◌, ◌≤◌, ℕ, length, sym, ◌∙◌, ap, subst, List, take, arith, Ok, Err}
+use Rattle.std.proofs.Common.{◌≤◌, length, sym, subst, take, arith, Err}
 use Rattle.std.proofs.lemmas.List.{length-take-le}
 use Rattle.dm_store.specs.Origin.{said_of}
 use Rattle.dm_attempt.specs.declared.stop.Stop.{Stop}
-use Rattle.dm_attempt.specs.Trace.{opened}
-use Rattle.dm_rounds.specs.Lanes.{PieceSays}
 use Rattle.dm_rounds.specs.Reading.{TurnLeaves, live_round}
 use Rattle.dm_rounds.proofs.Causes.{desk_own, desk_shown}
 use Rattle.dm_rounds.proofs.Turns.{piece_next}

@@ -1,4 +1,4 @@
-use Rattle.std.proofs.Common.{rules, arith, ◌≤◌, ◌∙◌, Result, Ok, Err}
+use Rattle.std.proofs.Common.{arith, ◌∙◌, Ok, Err}
 use Rattle.dm_store.specs.Origin.{said_of}
 use Rattle.dm_attempt.specs.Trace.{with_saves}
 use Rattle.dm_rounds.proofs.Readings.{may_read, reads_then}

@@ -1,4 +1,4 @@
-use Rattle.std.proofs.Common.{◌≡◌, ◌<◌, ◌≤◌, ℕ, List, length, vec_capacity}
+use Rattle.std.proofs.Common.{◌≡◌, ◌<◌, ◌≤◌, List, length, vec_capacity}
 use Rattle.dm_types.specs.Faults.{NoneFell}
 use Rattle.dm_types.specs.declared.slices.Slice.{Slice}
 use Rattle.dm_store.specs.Origin.{said_of}

@@ -1,8 +1,8 @@
-use Rattle.std.proofs.Common.{◌≡◌, ◌<◌, ◌≤◌, ℕ, sym, subst, List, set, arith, length, Ok}
+use Rattle.std.proofs.Common.{◌<◌, sym, subst, List, arith, length, Ok}
 use Rattle.std.proofs.lemmas.List.{length-set, get_or-set_same}
 use Rattle.dm_store.specs.Origin.{said_of}
 use Rattle.dm_rounds.specs.declared.lane.Lane.{Lane}
-use Rattle.dm_rounds.specs.Lanes.{SomeShows, left_of}
+use Rattle.dm_rounds.specs.Lanes.{left_of}
 use Rattle.dm_rounds.specs.Reading.{ReadLeaves}
 use Rattle.dm_rounds.proofs.Readings.{may_turn, turn_at, turned_more, turned_stop, turned_whole}
 use Rattle.dm_rounds.proofs.Rounds.{smaller_rest, smaller_set}

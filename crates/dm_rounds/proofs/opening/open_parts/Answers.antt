@@ -1,5 +1,4 @@
-use Rattle.std.proofs.Common.{◌≡◌, ℕ, ◌+◌, List, length, refl, sym, ◌∙◌, ap, subst, arith}
-use Rattle.dm_rounds.specs.Opening.{IsOpening}
+use Rattle.std.proofs.Common.{◌+◌, length, arith}
 use Rattle.dm_rounds.proofs.Lost.{all_opened, lost_round, none_open}
 use Rattle.dm_rounds.proofs.opening.open_parts.Goals as goal
 

@@ -1,7 +1,4 @@
-use Rattle.std.proofs.Common.{IsTrue, Some, subst, sym}
 use Rattle.dm_store.specs.Origin.{said_of}
-use Rattle.dm_attempt.specs.Asking.{Asking}
-use Rattle.dm_rounds.specs.Running.{IsRunning}
 use Rattle.dm_rounds.specs.Trail.{asking_behind}
 use Rattle.dm_rounds.proofs.Trails.{told_some, read_live, read_trace, reads_one, round_stopped}
 use Rattle.dm_rounds.proofs.running.read_one.Goals as goal

@@ -1,4 +1,4 @@
-use Rattle.std.proofs.Common.{◌≡◌, ◌∙◌, ℕ, ◌+◌, Bool, Ok, refl, subst, arith}
+use Rattle.std.proofs.Common.{◌∙◌, ◌+◌, Bool, Ok, refl, subst, arith}
 use Rattle.dm_store.specs.Origin.{said_of}
 use Rattle.dm_rounds.specs.Rounding.{next_shares}
 use Rattle.dm_rounds.specs.Running.{ReadsOne, later_asking}

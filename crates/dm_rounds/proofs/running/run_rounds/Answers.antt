@@ -1,4 +1,4 @@
-use Rattle.std.proofs.Common.{◌≡◌, ◌∙◌, ◌≤◌, ◌<◌, ℕ, ◌+◌, Bool, Ok, Err, refl, sym, ap, subst, arith, vec_len}
+use Rattle.std.proofs.Common.{◌≡◌, ◌∙◌, ◌≤◌, Bool, Ok, refl, sym, ap, subst, arith, vec_len}
 use Rattle.dm_types.specs.declared.item.Limits.{Limits}
 use Rattle.dm_store.specs.Origin.{said_of}
 use Rattle.dm_store.specs.declared.pass.Pass.{Pass}

@@ -1,4 +1,4 @@
-use Rattle.std.proofs.Common.{◌≡◌, ◌<◌, ◌≤◌, ◌-◌, ℕ, List, vec_len, vec_capacity}
+use Rattle.std.proofs.Common.{◌≡◌, ◌<◌, ◌≤◌, ◌-◌, List, vec_len, vec_capacity}
 use Rattle.dm_types.specs.Faults.{NoneFell}
 use Rattle.dm_store.specs.Origin.{said_of}
 use Rattle.dm_answers.specs.Plan.{last_round}
