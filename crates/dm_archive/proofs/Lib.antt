@@ -1,3 +1,4 @@
+pub mod Deciding
 mod Leaves
 mod Moves
 mod Nexts

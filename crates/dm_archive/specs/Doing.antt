@@ -66,6 +66,10 @@ archives_all given = record {
 abbrev pub shows_page : ℕ → ℕ → Given → Doing
 shows_page after limit given = says verdicts.Done (lines (shown_page given.items after limit given.rows))
 
+-- a row is dropped
+abbrev pub drops_row : ItemId → Doing
+drops_row id = record { entries = []; change = drops id.0; verdict = verdicts.Done; tells = nothing }
+
 -- `remove`: the item with the id, or else its row
 abbrev pub removes_of : ItemId → List Row → Option Item → Doing
 removes_of id rows (Some item) =
@@ -73,7 +77,7 @@ removes_of id rows (Some item) =
     then record { entries = entries.Removed item.id ∷ []; change = stay; verdict = verdicts.Done; tells = nothing }
     else says (verdicts.WrongState item.phase) nothing
 removes_of id rows None =
-    if is_there id.0 rows then record { entries = []; change = drops id.0; verdict = verdicts.Done; tells = nothing } else says (verdicts.NoItem id) nothing
+    if is_there id.0 rows then drops_row id else says (verdicts.NoItem id) nothing
 
 abbrev pub removes : ItemId → Given → Doing
 removes id given = removes_of id given.rows (item_in id.0 given.items)
