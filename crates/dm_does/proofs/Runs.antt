@@ -1,8 +1,8 @@
--- Whatever runs and crashes led to a disk, it keeps what was acknowledged.
-use Rattle.std.proofs.Common.{◌≡◌, ◌⊎◌, inl, inr, true, List, [], ◌∷◌, ◌++◌, refl, sym, ◌∙◌, ap, subst, append_assoc}
+-- Whatever runs, crashes and kills led to a disk, it keeps what was acknowledged.
+use Rattle.std.proofs.Common.{◌≡◌, inl, inr, true, List, [], ◌∷◌, ◌++◌, refl, sym, ◌∙◌, ap, subst, append_assoc}
 use Rattle.std.proofs.lemmas.List.{append-nil}
 use Rattle.dm_types.specs.declared.item.Item.{Item}
-use Rattle.dm_disk_model.specs.Disk.{DiskState, History as Clock, IsSoundDisk, now, reading}
+use Rattle.dm_disk_model.specs.Disk.{DiskState, Image, History as Clock, IsSoundDisk, MayLeave, now, reading}
 use Rattle.dm_disk_model.specs.Folder.{contents_of}
 use Rattle.dm_disk_model.proofs.Images.{as_read}
 use Rattle.dm_item.specs.Lawful.{History, IsLawful, items_of}
@@ -14,8 +14,8 @@ use Rattle.dm_kept.specs.Recovery.{Found, Through, recovered}
 use Rattle.dm_kept.proofs.Histories.{records_one}
 use Rattle.dm_kept.proofs.Resting.{empty_kept, kept_weaker}
 use Rattle.dm_answers.specs.Opening.{reopening}
-use Rattle.dm_does.specs.Headline.{AnyRuns, Cut, Ended, IsBehind, IsFrontOf, IsListOf, OpensOnce, Piece, beside, crashed, cut, ended, fresh, lost, next, none, ran, Lives}
-use Rattle.dm_does.specs.Leaving.{KeepsAll, TriedBy}
+use Rattle.dm_does.specs.Headline.{AnyRuns, Cut, Ended, IsBehind, IsFrontOf, IsListOf, OpensOnce, Piece, BeginsWith, beside, crashed, cut, ended, fresh, killed, lost, next, none, ran, Lives}
+use Rattle.dm_does.specs.Leaving.{KeepsAll, KeepsOne, TriedBy}
 use Rattle.dm_does.specs.Log.{Run, Untouched, Unread, Unopened, Opened, tried_in}
 use Rattle.dm_does.proofs.Added.{added_kept}
 use Rattle.dm_does.proofs.Begun.{begins_kept}
@@ -175,15 +175,57 @@ by_early says pieces start disk tried history on through kept =
     (subst (IsListOf (Cut tried ∷ pieces)) (append-nil one.list) (next pieces one.list (Cut tried) [] one.of (record { rest = tried; is = refl })))
     one.lawful (kept_weaker true says (λ found_now. found_now ≡ recovered history) (λ found_now. found_now ≡ recovered one.list) disk (λ found_now is. is ∙ one.is) kept)
 
-by_crash : (says : Says) (start disk : DiskState) (pieces : List Piece) (run : Run) (history : History) (on : Stands says pieces start) → IsSoundDisk start → OpensOnce start run
-    → Through on.whole on.rest (recovered history) ⊎ TriedBy run (recovered history) → Kept true says (λ found_now. found_now ≡ recovered history) disk → Stands says (cut run ∷ pieces) disk
-by_crash says start disk pieces run history on sound opens (inl through) kept = by_early says pieces start disk (tried_in run) history on through kept
-by_crash says start disk pieces Untouched history on sound opens (inr tried) kept = absurd tried
-by_crash says start disk pieces Unread history on sound opens (inr tried) kept = absurd tried
-by_crash says start disk pieces (Unopened found recorded failed rest) history on sound opens (inr tried) kept =
+-- of a run that was cut at a moment at which it kept what it found, and some of what it tried
+by_crash : (says : Says) (start disk : DiskState) (pieces : List Piece) (run : Run) (history : History) → Stands says pieces start → IsSoundDisk start → OpensOnce start run
+    → TriedBy run (recovered history) → Kept true says (λ found_now. found_now ≡ recovered history) disk → Stands says (cut run ∷ pieces) disk
+by_crash says start disk pieces Untouched history on sound opens tried kept = absurd tried
+by_crash says start disk pieces Unread history on sound opens tried kept = absurd tried
+by_crash says start disk pieces (Unopened found recorded failed rest) history on sound opens tried kept =
     by_cut says pieces disk found (recorded ++ (failed ++ rest)) history (grounded says pieces start found (recorded ++ (failed ++ rest)) sound on opens) tried kept
-by_crash says start disk pieces (Opened log) history on sound opens (inr tried) kept =
+by_crash says start disk pieces (Opened log) history on sound opens tried kept =
     by_cut says pieces disk log.found (tried_in (Opened log)) history (grounded says pieces start log.found (tried_in (Opened log)) sound on opens) tried kept
+
+-- a crash at this moment
+at_crash : (says : Says) (start moment disk : DiskState) (pieces : List Piece) (run : Run) (image : Image) (on : Stands says pieces start) → IsSoundDisk start → OpensOnce start run → KeepsOne says on.whole on.rest run moment
+    → MayLeave moment image → BeginsWith disk image → Stands says (cut run ∷ pieces) disk
+at_crash says start moment disk pieces run image on sound opens (inl kept) left begins =
+    let found = kept image left in
+    by_early says pieces start disk (tried_in run) found.history on found.items (begins_kept says (Through on.whole on.rest) moment disk image left begins found)
+at_crash says start moment disk pieces run image on sound opens (inr kept) left begins =
+    let found = kept image left in
+    by_crash says start disk pieces run found.history on sound opens found.items (begins_kept says (TriedBy run) moment disk image left begins found)
+
+-- A run that was killed: the disk stays as it was, and may still leave each of these.
+still : (says : Says) (pieces : List Piece) (disk : DiskState) (found tried : History) → Grounded says pieces found tried → Kept true says (Through found tried) disk → Stands says (Cut tried ∷ pieces) disk
+still says pieces disk found tried on kept = record {
+  whole = on.base;
+  rest = tried;
+  lists = λ front is. next pieces on.base (Cut tried) front on.of is;
+  lawful = (behind_all found on.base tried on.lawful on.same on.whole on.fits).0;
+  kept = kept_weaker true says (Through found tried) (Through on.base tried) disk (λ found_now is. through_same found on.base tried found_now on.lawful on.same on.whole on.fits is) kept;
+}
+
+still_early : (says : Says) (pieces : List Piece) (start disk : DiskState) (tried : History) (on : Stands says pieces start) → Kept true says (Through on.whole on.rest) disk → Stands says (Cut tried ∷ pieces) disk
+still_early says pieces start disk tried on kept = record {
+  whole = on.whole;
+  rest = on.rest;
+  lists = λ front is. subst (IsListOf (Cut tried ∷ pieces)) (append-nil (on.whole ++ front)) (next pieces (on.whole ++ front) (Cut tried) [] (on.lists front is) (record { rest = tried; is = refl }));
+  lawful = on.lawful;
+  kept = kept;
+}
+
+-- what tried nothing leaves nothing else
+nothing_tried : (says : Says) (pieces : List Piece) (start disk : DiskState) → Stands says pieces start → Kept true says (λ found. ⊥) disk → Stands says (Cut [] ∷ pieces) disk
+nothing_tried says pieces start disk on kept = still_early says pieces start disk [] on (kept_weaker true says (λ found. ⊥) (Through on.whole on.rest) disk (λ found none. absurd none) kept)
+
+at_kill : (says : Says) (start moment : DiskState) (pieces : List Piece) (run : Run) (on : Stands says pieces start) → IsSoundDisk start → OpensOnce start run → KeepsOne says on.whole on.rest run moment → Stands says (cut run ∷ pieces) moment
+at_kill says start moment pieces run on sound opens (inl kept) = still_early says pieces start moment (tried_in run) on kept
+at_kill says start moment pieces Untouched on sound opens (inr kept) = nothing_tried says pieces start moment on kept
+at_kill says start moment pieces Unread on sound opens (inr kept) = nothing_tried says pieces start moment on kept
+at_kill says start moment pieces (Unopened found recorded failed rest) on sound opens (inr kept) =
+    still says pieces moment found (recorded ++ (failed ++ rest)) (grounded says pieces start found (recorded ++ (failed ++ rest)) sound on opens) kept
+at_kill says start moment pieces (Opened log) on sound opens (inr kept) =
+    still says pieces moment log.found (tried_in (Opened log)) (grounded says pieces start log.found (tried_in (Opened log)) sound on opens) kept
 
 -- the power went between two runs
 by_loss : (says : Says) (pieces : List Piece) (before disk : DiskState) (history : History) (on : Stands says pieces before) → Through on.whole on.rest (recovered history)
@@ -198,9 +240,10 @@ lives_stand says disk pieces (fresh _ absent) = stands_on says [] disk [] none t
 lives_stand says disk pieces (ran start end before run lives is) = by_run says start end before run (lives_stand says (now start) before lives) is.sound is.opens is.keeps
 lives_stand says disk pieces (crashed start end before run t image _ lives is from to left begins) =
     let on : Stands says before (now start) = lives_stand says (now start) before lives in
-    let found = (is.keeps on.whole on.rest on.kept).moments.each t from to image left in
-    by_crash says (now start) disk before run found.history on is.sound is.opens found.items
-    (begins_kept says (λ f. Through on.whole on.rest f ⊎ TriedBy run f) (end.at t) disk image left begins found)
+    at_crash says (now start) (end.at t) disk before run image on is.sound is.opens ((is.keeps on.whole on.rest on.kept).moments.each t from to) left begins
+lives_stand says disk pieces (killed start end before run t lives is from to) =
+    let on : Stands says before (now start) = lives_stand says (now start) before lives in
+    at_kill says (now start) (end.at t) before run on is.sound is.opens ((is.keeps on.whole on.rest on.kept).moments.each t from to)
 lives_stand says disk pieces (beside before _ _ added lives is) =
     let on : Stands says pieces before = lives_stand says before pieces lives in
     record {

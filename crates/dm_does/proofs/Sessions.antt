@@ -18,7 +18,7 @@ use Rattle.dm_store.specs.Keeps.{Goes, HoldsOf, RestsBy, added}
 use Rattle.dm_store.specs.Lives.{covers_of}
 use Rattle.dm_store.specs.View.{View}
 use Rattle.dm_answers.specs.Opening.{LeavesSome}
-use Rattle.dm_does.specs.Leaving.{EndsWith, HoldsLog, KeepsAll, RunLeaves}
+use Rattle.dm_does.specs.Leaving.{EndsWith, HoldsLog, KeepsAll, KeepsOne, RunLeaves}
 use Rattle.dm_does.specs.Log.{Opened}
 use Rattle.dm_does.specs.Session.{IsSession, log_of}
 
@@ -69,13 +69,9 @@ module _ {D O : Type 0} (clock : D → Clock) (says : Says) (start : Clock) (fou
 
   pub session_keeps : (kept rest : History) → Kept true says (Through kept rest) (now start) → KeepsAll says start (clock ended.disk) kept rest (Opened (log_of found opened ended))
   session_keeps kept rest here = record {
-    moments = joined start (clock opened.disk) (clock ended.disk) (Kept true says (λ recovered. Through kept rest recovered ⊎ Through found tried recovered))
-        (weaker start (clock opened.disk) (Kept true says (λ recovered. Through kept rest recovered ⊎ Through found opened.list recovered)) (Kept true says (λ recovered. Through kept rest recovered ⊎ Through found tried recovered))
-        (λ disk k. kept_weaker true says (λ recovered. Through kept rest recovered ⊎ Through found opened.list recovered) (λ recovered. Through kept rest recovered ⊎ Through found tried recovered) disk (either kept rest) k)
-        (is.opens.keeps kept rest here))
-        (weaker (clock opened.disk) (clock ended.disk) (Kept true says (Through found tried)) (Kept true says (λ recovered. Through kept rest recovered ⊎ Through found tried recovered))
-        (λ disk k. kept_weaker true says (Through found tried) (λ recovered. Through kept rest recovered ⊎ Through found tried recovered) disk (λ recovered through. inr through) k)
-        (later true was));
+    moments = joined start (clock opened.disk) (clock ended.disk) (KeepsOne says kept rest (Opened (log_of found opened ended)))
+        (weaker start (clock opened.disk) (λ disk. Kept true says (Through kept rest) disk ⊎ Kept true says (Through found opened.list) disk) (KeepsOne says kept rest (Opened (log_of found opened ended))) early (is.on kept rest here))
+        (weaker (clock opened.disk) (clock ended.disk) (Kept true says (Through found tried)) (KeepsOne says kept rest (Opened (log_of found opened ended))) (λ disk k. inr k) (later true was));
     after =
         let held : HoldsOf true says clock ended ((found ++ opened.list) ++ more) = (goes_from true was).holds in
         subst (λ (h : History). Kept true says (Through h ended.failed) (now (clock ended.disk))) (append_assoc found opened.list more)
@@ -86,9 +82,9 @@ module _ {D O : Type 0} (clock : D → Clock) (says : Says) (start : Clock) (fou
       was : WasKept true says (now start)
       was = record { earlier = kept; more = rest; kept = here }
 
-      either : (k r : History) (recovered : Found) → Through k r recovered ⊎ Through found opened.list recovered → Through k r recovered ⊎ Through found tried recovered
-      either k r recovered (inl through) = inl through
-      either k r recovered (inr through) = inr (front recovered through)
+      early : (disk : DiskState) → Kept true says (Through kept rest) disk ⊎ Kept true says (Through found opened.list) disk → KeepsOne says kept rest (Opened (log_of found opened ended)) disk
+      early disk (inl k) = inl k
+      early disk (inr k) = inr (kept_weaker true says (Through found opened.list) (Through found tried) disk front k)
 
   pub session_holds : HoldsLog (clock ended.disk) (Opened (log_of found opened ended))
   session_holds whole =

@@ -1,4 +1,4 @@
--- The promise over any list of runs and crashes: what was acknowledged is never lost, and under a finished item's name stands the whole content.
+-- The promise over any list of runs, crashes and kills: what was acknowledged is never lost, and under a finished item's name stands the whole content.
 use Rattle.std.specs.Prelude.{◌≡◌, ◌≢◌, ◌⊎◌, ◌≤◌, ℕ, false, true, List, [], ◌∷◌, ◌++◌, length, slice_get, Some, None, IfSome, IsTrue}
 use Rattle.sha2.specs.Sha256.{sha256}
 use Rattle.dm_types.specs.Name.{IsPart}
@@ -25,7 +25,7 @@ use Rattle.dm_does.specs.Log.{ArePlain, Run, Untouched, Unread, Unopened, Opened
 pub data Piece : Type 0 where
   -- The run ended: these entries were recorded, and are acknowledged. Of those which failed, one at most, some may stand nevertheless.
   Ended : (recorded failed : History) → Piece
-  -- The run was cut by a crash: of the entries that it tried to record, those up to some place stand.
+  -- The run was cut by a crash or a kill: of the entries that it tried to record, those up to some place stand.
   Cut : (tried : History) → Piece
 
 -- the first of the entries, up to some place
@@ -144,7 +144,7 @@ ended run = Ended (recorded_in run) (failed_in run)
 abbrev pub cut : Run → Piece
 cut run = Cut (tried_in run)
 
--- A disk to which runs and crashes led, and what each run did: nothing more is known of the words, of the servers or of what failed.
+-- A disk to which runs, crashes and kills led, and what each run did: nothing more is known of the words, of the servers or of what failed.
 pub data Lives (says : Says) : DiskState → List Piece → Type 0 where
   -- no journal ever stood
   fresh : (disk : DiskState) → IsAbsent journal_name disk.state → Lives says disk []
@@ -153,6 +153,8 @@ pub data Lives (says : Says) : DiskState → List Piece → Type 0 where
   -- the power went at a moment of a run, and the next run begins with what that left
   crashed : (start end : Clock) (pieces : List Piece) (run : Run) (t : ℕ) (image : Image) (disk : DiskState) → Lives says (now start) pieces → IsRun says start end run
       → start.moment ≤ t → t ≤ end.moment → MayLeave (end.at t) image → BeginsWith disk image → Lives says disk (cut run ∷ pieces)
+  -- The program was killed at a moment of a run, with no loss of power: the next run begins with the disk as it was then, and what wasn't durable still isn't.
+  killed : (start end : Clock) (pieces : List Piece) (run : Run) (t : ℕ) → Lives says (now start) pieces → IsRun says start end run → start.moment ≤ t → t ≤ end.moment → Lives says (end.at t) (cut run ∷ pieces)
   -- between two runs somebody else added a file
   beside : (before after : DiskState) (pieces : List Piece) (name : List ℕ) → Lives says before pieces → IsAdded name before after → Lives says after pieces
   -- the power went between two runs

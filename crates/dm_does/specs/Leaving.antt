@@ -95,6 +95,10 @@ EndsKept says kept rest Unread disk = Kept true says (Through kept rest) disk
 EndsKept says kept rest (Unopened found recorded failed more) disk = Kept true says (Through (found ++ recorded) failed) disk
 EndsKept says kept rest (Opened log) disk = Kept true says (Through (kept_of log) log.failed) disk
 
+-- at this moment each crash leaves what is kept at the start; or each leaves what the run found, with some of what it tried behind it
+abbrev pub KeepsOne : Says → History → History → Run → DiskState → Type 0
+KeepsOne says kept rest run disk = Kept true says (Through kept rest) disk ⊎ Kept true says (TriedBy run) disk
+
 -- no item is interrupted
 abbrev pub NoneBroke : History → Type 0
 NoneBroke [] = Unit {0}
@@ -108,6 +112,6 @@ SettlesWell _ = Unit {0}
 
 -- from a disk that keeps these entries, and perhaps some of the rest
 pub record KeepsAll (says : Says) (start end : Clock) (kept rest : History) (run : Run) : Type 0 where
-  pub moments : Throughout start end (Kept true says (λ recovered. Through kept rest recovered ⊎ TriedBy run recovered))
+  pub moments : Throughout start end (KeepsOne says kept rest run)
   pub after : EndsKept says kept rest run (now end)
   pub settles : SettlesWell run

@@ -1,9 +1,11 @@
 -- A desk that was opened, and calls on it: what the desk's own clauses say of both, from which what a run leaves is put together.
-use Rattle.std.specs.Prelude.{Bool, true, ◌++◌}
+use Rattle.std.specs.Prelude.{◌⊎◌, Bool, true, ◌++◌}
 use Rattle.dm_disk_model.specs.Disk.{History as Clock, now}
+use Rattle.dm_disk_model.specs.Moments.{Throughout}
 use Rattle.dm_item.specs.Lawful.{History}
 use Rattle.dm_kept.specs.Files.{Says}
-use Rattle.dm_kept.specs.Kept.{WasKept}
+use Rattle.dm_kept.specs.Kept.{Kept, WasKept}
+use Rattle.dm_kept.specs.Recovery.{Through}
 use Rattle.dm_store.specs.Keeps.{Goes, HoldsOf, added}
 use Rattle.dm_store.specs.View.{View}
 use Rattle.dm_answers.specs.Opening.{OpenRuns}
@@ -14,6 +16,8 @@ use Rattle.dm_does.specs.Log.{Log}
 pub record IsSession {D O : Type 0} (clock : D → Clock) (says : Says) (start : Clock) (found : History) (opened ended : View D O) : Type 0 where
   pub opens : OpenRuns says start (clock opened.disk) found opened.list
   pub holds : (good : Bool) → WasKept good says (now start) → HoldsOf good says clock opened (found ++ opened.list)
+  -- at each moment of the opening one of the two is kept, where the start was
+  pub on : (kept rest : History) → Kept true says (Through kept rest) (now start) → Throughout start (clock opened.disk) (λ disk. Kept true says (Through kept rest) disk ⊎ Kept true says (Through found opened.list) disk)
   -- each item that was being finished is complete, where this program left the disk
   pub done : WasKept true says (now start) → NoneBroke opened.list
   pub goes : (good : Bool) (before : History) → HoldsOf good says clock opened before → Goes good says clock opened ended before (added opened ended)
