@@ -4,6 +4,7 @@ use Rattle.std.specs.List.{AllByRecursion}
 use Rattle.std.specs.Prelude.{◌==◌, IsTrue}
 use Rattle.std.proofs.lemmas.Bool.{false≢true}
 use Rattle.std.proofs.lemmas.List.{append-nil}
+use Rattle.dm_types.specs.Faults.{NoneFell, Rose}
 use Rattle.dm_types.specs.Limits.{most_items}
 use Rattle.dm_types.specs.declared.entry.Entry.{Entry}
 use Rattle.dm_types.specs.declared.entry.Entry.TheVariants as entries
@@ -15,6 +16,7 @@ use Rattle.dm_types.specs.declared.kinds.DiskKind.{DiskKind}
 use Rattle.dm_types.specs.declared.kinds.DiskKind.TheVariants as kinds
 use Rattle.dm_types.specs.declared.reason.Reason.{Reason}
 use Rattle.dm_types.specs.declared.reason.Reason.TheVariants as reasons
+use Rattle.dm_edge.specs.declared.fault.NetFault.{NetFault}
 use Rattle.dm_edge.specs.declared.fault.NetFault.TheVariants as nets
 use Rattle.dm_item.specs.Fields.{id_of, is_for}
 use Rattle.dm_item.specs.Kept.{IsNumbered}
@@ -37,27 +39,33 @@ use Rattle.dm_does.specs.Doing.{Doing, Given, does}
 use Rattle.dm_does.specs.Laws.{Fits, FitsEntries, IsOfList, NoneRuns, Waits, WaitsBy, is_own}
 use Rattle.dm_does.specs.Log.{Log, kept_of, opened_of, tried_of}
 use Rattle.dm_does.specs.Saying.{said_by, said_in, said_interrupted, said_of}
-use Rattle.dm_does.specs.World.{IsLater, World}
+use Rattle.dm_does.specs.World.{World}
 use Rattle.dm_does.proofs.Behind.{FitsTo, applied_same, lawful_front, lawful_last, lawful_more, listed, meets_same, recovered_more}
 use Rattle.dm_does.proofs.Fitting.{does_fit}
 use Rattle.dm_does.proofs.Sweeping.{rose_wider}
 use Rattle.dm_does.proofs.Waiting.{does_wait}
 
--- so of each interruption, whatever its reason
-counted_wider : (tells : Type 0) (before from to after : World) (reason : Reason) → IsLater tells before from → IsLater tells to after → IsCounted from to reason → IsCounted before after reason
-counted_wider tells before from to after reasons.FileAccessDenied first last is =
-    rose_wider (before.disk_faults kinds.Denied) (from.disk_faults kinds.Denied) (to.disk_faults kinds.Denied) (after.disk_faults kinds.Denied) (first.disk_later kinds.Denied) is (last.disk_later kinds.Denied)
-counted_wider tells before from to after reasons.FileNoSpace first last is =
-    rose_wider (before.disk_faults kinds.NoSpace) (from.disk_faults kinds.NoSpace) (to.disk_faults kinds.NoSpace) (after.disk_faults kinds.NoSpace) (first.disk_later kinds.NoSpace) is (last.disk_later kinds.NoSpace)
-counted_wider tells before from to after reasons.FileNameTooLong first last is =
-    rose_wider (before.disk_faults kinds.NameTooLong) (from.disk_faults kinds.NameTooLong) (to.disk_faults kinds.NameTooLong) (after.disk_faults kinds.NameTooLong) (first.disk_later kinds.NameTooLong) is (last.disk_later kinds.NameTooLong)
-counted_wider tells before from to after reasons.NetworkTimeout first last is =
-    rose_wider (before.net_faults nets.Timeout) (from.net_faults nets.Timeout) (to.net_faults nets.Timeout) (after.net_faults nets.Timeout) (first.net_later nets.Timeout) is (last.net_later nets.Timeout)
-counted_wider tells before from to after reasons.NetworkDisconnected first last is =
-    rose_wider (before.net_faults nets.NoRoute) (from.net_faults nets.NoRoute) (to.net_faults nets.NoRoute) (after.net_faults nets.NoRoute) (first.net_later nets.NoRoute) is (last.net_later nets.NoRoute)
-counted_wider tells before from to after reasons.NetworkServerDown first last is =
-    rose_wider (before.net_faults nets.Refused) (from.net_faults nets.Refused) (to.net_faults nets.Refused) (after.net_faults nets.Refused) (first.net_later nets.Refused) is (last.net_later nets.Refused)
-counted_wider tells before from to after reason first last is = is
+-- What was counted between two worlds was counted between wider ones.
+module _ (before from to after : World) (disk_first : NoneFell before.disk_faults from.disk_faults) (net_first : NoneFell before.net_faults from.net_faults) (disk_last : NoneFell to.disk_faults after.disk_faults) (net_last : NoneFell to.net_faults after.net_faults) where
+  disk_wider : (kind : DiskKind) → Rose (from.disk_faults kind) (to.disk_faults kind) → Rose (before.disk_faults kind) (after.disk_faults kind)
+  disk_wider kind rose = rose_wider (before.disk_faults kind) (from.disk_faults kind) (to.disk_faults kind) (after.disk_faults kind) (disk_first kind) rose (disk_last kind)
+
+  net_wider : (kind : NetFault) → Rose (from.net_faults kind) (to.net_faults kind) → Rose (before.net_faults kind) (after.net_faults kind)
+  net_wider kind rose = rose_wider (before.net_faults kind) (from.net_faults kind) (to.net_faults kind) (after.net_faults kind) (net_first kind) rose (net_last kind)
+
+  pub counted_wider : (reason : Reason) → IsCounted from to reason → IsCounted before after reason
+  counted_wider reasons.FileAccessDenied is = disk_wider kinds.Denied is
+  counted_wider reasons.FileNoSpace is = disk_wider kinds.NoSpace is
+  counted_wider reasons.FileNameTooLong is = disk_wider kinds.NameTooLong is
+  counted_wider reasons.NetworkTimeout is = net_wider nets.Timeout is
+  counted_wider reasons.NetworkDisconnected is = net_wider nets.NoRoute is
+  counted_wider reasons.NetworkServerDown is = net_wider nets.Refused is
+  counted_wider reason is = is
+
+  -- and so of each entry of an attempt
+  pub attempt_wider : (id : ItemId) (at : ℕ) (e : Entry) → IsOfAttempt from to id at e → IsOfAttempt before after id at e
+  attempt_wider id at (entries.Broke other reason) of = (of.0, counted_wider reason of.1)
+  attempt_wider id at e of = of
 
 module _ (from to : World) (id : ItemId) (at : ℕ) where
   -- an interruption was counted
@@ -138,7 +146,7 @@ by_bringing : (brings : Bringing) (tells : Type 0) (at : ℕ) (before after : Wo
 by_bringing brings tells at before after id slices history fetched reason brought lawful waits told =
     let only : AllByRecursion (IsOfAttempt brought.from brought.to id at) fetched = subst (AllByRecursion (IsOfAttempt brought.from brought.to id at)) (append-nil fetched) brought.only in
     let shown = after_all brought.from brought.to id at history fetched lawful only (shown_waiting brought.from brought.to id at (items_of history) waits) in
-    counted_wider tells before brought.from brought.to after reason brought.first brought.last (by_item brought.from brought.to id at (item_in id.0 (items_of (history ++ fetched))) reason shown told)
+    counted_wider before brought.from brought.to after brought.first.disk_later brought.first.net_later brought.last.disk_later brought.last.net_later reason (by_item brought.from brought.to id at (item_in id.0 (items_of (history ++ fetched))) reason shown told)
 
 told_of : (said : Said) (verdict : Verdict) (reason : Reason) → said.verdict ≡ verdict → said.verdict ≡ verdicts.Interrupted reason → verdict ≡ verdicts.Interrupted reason
 told_of said verdict reason is told = sym is ∙ told
