@@ -1,0 +1,6 @@
+pub mod Starts
+pub mod Attempts
+pub mod Drive
+pub mod Fetches
+pub mod Serves
+pub mod Completes
