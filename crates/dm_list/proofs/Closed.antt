@@ -13,7 +13,7 @@ use Rattle.dm_item.specs.Lawful.{History}
 use Rattle.dm_kept.specs.Files.{Says, says_all}
 use Rattle.dm_kept.specs.Kept.{Kept, WasKept}
 use Rattle.dm_kept.specs.Recovery.{Found, Through}
-use Rattle.dm_kept.proofs.Resting.{kept_any, kept_weaker}
+use Rattle.dm_kept.proofs.Resting.{kept_any}
 use Rattle.dm_open.specs.Refused.{IsHindered, NoneRead, OpenRefuses, StaysDamaged}
 use Rattle.dm_open.proofs.Unread.{none_read_leaves}
 use Rattle.dm_report.specs.Said.{EndsAs, Said, only}
@@ -25,7 +25,7 @@ use Rattle.dm_answers.specs.declared.fault.OpenFault.{OpenFault}
 use Rattle.dm_answers.specs.declared.fault.OpenFault.TheVariants as opens
 use Rattle.dm_does.specs.Answering.{Bringing, SaysFault, SaysUnread}
 use Rattle.dm_does.specs.Jobs.{HasSomeJob}
-use Rattle.dm_does.specs.Leaving.{IsTouched, KeepsAll, Leaves, ShowsDamage}
+use Rattle.dm_does.specs.Leaving.{IsTouched, KeepsOne, ShowsDamage}
 use Rattle.dm_does.specs.Log.{Run, Unread, Unopened}
 use Rattle.dm_does.specs.World.{IsLater, World}
 use Rattle.dm_does.proofs.Touching.{opening_touches}
@@ -65,8 +65,7 @@ module _ {D : Type 0} (brings : ℕ → Bringing) (tells : Type 0) (clock : D �
     keeps = λ told kept rest here.
         let through = none.kept told true kept rest here in
         record {
-          moments = weaker (clock start) (clock end) (Kept true says (Through kept rest)) (Kept true says (λ recovered. Through kept rest recovered ⊎ ⊥))
-              (λ disk is. kept_weaker true says (Through kept rest) (λ recovered. Through kept rest recovered ⊎ ⊥) disk (λ recovered is_one. inl is_one) is) through;
+          moments = weaker (clock start) (clock end) (Kept true says (Through kept rest)) (KeepsOne says kept rest Unread) (λ disk is. inl is) through;
           after = at_end (clock start) (clock end) (Kept true says (Through kept rest)) through;
           settles = tt;
         };
@@ -86,7 +85,7 @@ module _ {D : Type 0} (brings : ℕ → Bringing) (tells : Type 0) (clock : D �
       near = h.is.near;
     };
     keeps = λ told kept rest here. record {
-      moments = (h.is.runs told).keeps kept rest here;
+      moments = h.is.on told kept rest here;
       after = h.is.kept told true (record { earlier = kept; more = rest; kept = here });
       settles = tt;
     };

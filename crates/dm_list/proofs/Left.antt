@@ -89,6 +89,7 @@ module _ {D O : Type 0} (tells : Type 0) (clock : D → Clock) (counts : D → D
   session told = record {
     opens = w.is.runs told;
     holds = w.is.holds told;
+    on = w.on told;
     done = λ was. opening_done found w.opened.list w.is.tried.settled at w.is.tried.tried_is (w.is.never_breaks told was);
     goes = λ good before held.
         subst (λ (o : O). Goes good (says o) clock w.opened w.ended before (added w.opened w.ended)) w.origin_is

@@ -12,9 +12,6 @@ use Rattle.dm_edge.specs.Wire.{Closed}
 use Rattle.dm_item.specs.Lawful.{History}
 use Rattle.dm_item.proofs.Basics.{none_some, some_same}
 use Rattle.dm_kept.specs.Files.{Says}
-use Rattle.dm_kept.specs.Kept.{Kept}
-use Rattle.dm_kept.specs.Recovery.{Through}
-use Rattle.dm_kept.proofs.Resting.{kept_weaker}
 use Rattle.dm_report.specs.Said.{Said, only}
 use Rattle.dm_report.specs.Verdict.{IsMade}
 use Rattle.dm_report.specs.declared.verdict.Verdict.{Verdict}
@@ -26,7 +23,7 @@ use Rattle.dm_does.specs.declared.job.Job.{Job}
 use Rattle.dm_does.specs.declared.job.Job.TheVariants as jobs
 use Rattle.dm_does.specs.Answering.{Bringing}
 use Rattle.dm_does.specs.Jobs.{HasJob, RefusesWords, job_of, order_in}
-use Rattle.dm_does.specs.Leaving.{IsTouched, ShowsDamage}
+use Rattle.dm_does.specs.Leaving.{IsTouched, KeepsOne, ShowsDamage}
 use Rattle.dm_does.specs.Log.{Opened, Untouched}
 use Rattle.dm_list.specs.Reading.{AsksList, IsListJob, asks_list}
 use Rattle.dm_list.specs.Running.{JobRefused, JobRuns, JobWorked, RunsBy, world_of}
@@ -83,8 +80,7 @@ module _ {D : Type 0} (brings : ℕ → Bringing) (tells : Type 0) (clock : D �
       near = λ short. refl;
     };
     keeps = λ told kept rest here. record {
-      moments = at_start (clock start) (Kept true says (λ recovered. Through kept rest recovered ⊎ ⊥))
-          (kept_weaker true says (Through kept rest) (λ recovered. Through kept rest recovered ⊎ ⊥) (now (clock start)) (λ recovered is. inl is) here);
+      moments = at_start (clock start) (KeepsOne says kept rest Untouched) (inl here);
       after = here;
       settles = tt;
     };

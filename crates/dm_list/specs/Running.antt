@@ -18,7 +18,7 @@ use Rattle.dm_answers.specs.Opening.{IsOpened, disk_in}
 use Rattle.dm_answers.specs.Reads.{IsSettledName}
 use Rattle.dm_answers.specs.declared.fault.OpenFault.{OpenFault}
 use Rattle.dm_answers.specs.declared.fault.OpenFault.TheVariants as opens
-use Rattle.dm_open.specs.Refused.{OpenRefuses}
+use Rattle.dm_open.specs.Refused.{OpenRefuses, RunsOn}
 use Rattle.dm_does.specs.declared.job.Job.{Job}
 use Rattle.dm_does.specs.Answering.{Answers, Bringing}
 use Rattle.dm_does.specs.Leaving.{KeepsAll, Leaves}
@@ -52,6 +52,8 @@ pub record JobWorked {D O : Type 0} (tells : Type 0) (clock : D → Clock) (coun
   pub limits : opened.limits.items ≡ most_items
   pub is : IsOpened tells clock far (says origin) start at opened
   pub beside : tells → Besides (IsSettledName clock start) (clock start) (clock opened.disk)
+  -- at each moment of the opening one of the two is kept, where the start was
+  pub on : tells → RunsOn (says origin) (clock start) (clock opened.disk) is.found opened.list
   pub later : NoneFell (counts start) (counts opened.disk)
   pub worked : Worked tells clock counts job at opened ended said
   pub goes : CallGoes tells clock counts far says opened ended

@@ -21,6 +21,7 @@ returns-in-Ok g c = inl (record {
   limits = ap (λ (l : Limits). l.items) c.in-Ok.ensures.answers.0.limits_are;
   is = c.in-Ok.ensures.answers.1;
   beside = c.in-Ok.ensures.beside;
+  on = λ told. c.in-Ok.ensures.on told c.in-Ok.ensures.answers.1.found (c.in-Ok.ensures.answers.1.tried.reads told);
   later = c.in-Ok.ensures.cause.later;
   worked = c.work-ending.ensures.worked;
   goes = c.work-ending.ensures.goes;
