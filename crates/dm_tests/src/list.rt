@@ -64,7 +64,12 @@ fn each_command_of_the_list_ends_as_it_should(rt: HostRuntime) -> Result<(), Fai
             b"",
             b"word of item 1\n",
         ),
+        (&[b"pause", b"1"], 0, b"1 paused 0 ? -\n", b""),
+        (&[b"cancel", b"1"], 0, b"1 cancelled 0 ? -\n", b""),
+        (&[b"remove", b"1"], 0, b"", b""),
         (&[b"show", b"5"], 3, b"", b"no item 5\n"),
+        (&[b"pause", b"5"], 3, b"", b"no item 5\n"),
+        (&[b"resume", b"1"], 2, b"", b"bad words\n"),
         (&[b"add", b"ftp://x/a"], 2, b"", b"bad address\n"),
         (&[b"list", b"x"], 2, b"", b"bad words\n"),
     ];
