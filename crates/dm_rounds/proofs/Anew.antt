@@ -1,5 +1,5 @@
 -- An attempt that brings its content anew, as its trace tells it.
-use Rattle.std.proofs.Common.{◌≡◌, ◌≢◌, ◌⊎◌, inl, inr, ◌≤◌, ℕ, List, [], ◌∷◌, ◌++◌, length, drop, Option, Some, None, Result, Ok, Err, refl, sym, ◌∙◌, ap, subst, arith, append_assoc}
+use Rattle.std.proofs.Common.{◌≡◌, ◌≢◌, ◌⊎◌, inl, inr, ◌≤◌, ℕ, List, [], ◌∷◌, ◌++◌, length, drop, Option, Some, None, Result, Ok, Err, IsTrue, refl, sym, ◌∙◌, ap, subst, arith, append_assoc}
 use Rattle.std.specs.Prelude.{IfSome}
 use Rattle.std.specs.List.{Contains}
 use Rattle.std.proofs.lemmas.List.{append-nil}
@@ -35,13 +35,14 @@ use Rattle.dm_attempt.specs.Trace.{Round, Tale, Trace, told_with, untold}
 use Rattle.dm_rounds.specs.declared.first.Reply.{Reply}
 use Rattle.dm_rounds.specs.Beginning.{IsBefore, IsNamedAs, NotPlanned}
 use Rattle.dm_rounds.specs.First.{FreshEnds, FreshLeaves, FreshStops, IsHeard, IsFreshTrace, IsLedAndLost, IsLedTo, IsLostAt, IsReplied, IsTold, IsWished, StopsFirst, ToldRounds, first_asking}
-use Rattle.dm_rounds.specs.Lanes.{NetCounts}
+use Rattle.dm_rounds.specs.Lanes.{NetCounts, is_net_cause}
 use Rattle.dm_rounds.specs.Opened.{IsFrontSent}
 use Rattle.dm_rounds.specs.Parts.{IsOfNet}
 use Rattle.dm_rounds.specs.Reading.{closed_before}
 use Rattle.dm_rounds.specs.Serving.{HasReply}
 use Rattle.dm_rounds.specs.Telling.{IsToldOf}
 use Rattle.dm_rounds.specs.Trail.{AreCut, AreRead, GoesFrom, IsShown, NetShowsIt, RunEnds, RunStops}
+use Rattle.dm_rounds.proofs.Causes.{net_apart}
 use Rattle.dm_rounds.proofs.Losing.{asking_shown, contains_here}
 use Rattle.dm_rounds.proofs.Lost.{drop_all}
 use Rattle.dm_rounds.proofs.Onward.{shown_longer}
@@ -143,13 +144,13 @@ module _ {D O : Type 0} (tells : Type 0) (clock : D → Clock) (says : O → Say
           }
         ]
 
-        shown_since : cause ≢ causes.Memory → NetShowsIt before now (untold [] since 0) cause
-        shown_since other =
+        shown_since : IsTrue (is_net_cause cause) → NetShowsIt before now (untold [] since 0) cause
+        shown_since own =
             let same : NoneFell before before = λ kind. omega arith in
             let still : NoneFell now now = λ kind. omega arith in
-            asking_shown Whole pass first before before now now same still start after cause other stopped (untold [] since 0) (λ c last.
+            asking_shown Whole pass first before before now now same still start after cause (net_apart cause own) stopped (untold [] since 0) (λ c last.
             let is : since ≡ stopped.led ++ c ∷ [] = since_is (stopped.led ++ c ∷ []) (last ∙ append_assoc start stopped.led (c ∷ [])) in
-            subst (λ (l : List Closed). Contains l c) (sym is) (contains_here stopped.led [] c))
+            subst (λ (l : List Closed). Contains l c) (sym is) (contains_here stopped.led [] c)) (λ c last whole. since_is (stopped.led ++ c ∷ []) (last ∙ append_assoc start stopped.led (c ∷ [])))
 
       by_stop : (P : Type 0) → ((cause : Cause) → IsStopped Whole (purpose_of pass.id pass.attempt) first before now start after cause → P) → (stop : Stop) → StopsFirst pass first before now start after stop → P
       by_stop P by (stops.Broke cause) stopped = by cause stopped

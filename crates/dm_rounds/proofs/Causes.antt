@@ -1,5 +1,5 @@
 -- How an attempt stops by the causes of a content.
-use Rattle.std.proofs.Common.{◌<◌, ◌≤◌, ℕ, List, Option, IsTrue, refl, sym, ◌∙◌, ap, arith}
+use Rattle.std.proofs.Common.{◌≢◌, ◌<◌, ◌≤◌, ℕ, List, Option, IsTrue, refl, sym, ◌∙◌, ap, arith}
 use Rattle.std.specs.Prelude.{IfSome}
 use Rattle.std.proofs.lemmas.Bool.{false≢true}
 use Rattle.std.proofs.lemmas.Option.{IfSome_then}
@@ -8,7 +8,7 @@ use Rattle.dm_types.specs.Faults.{NoneFell, Rose}
 use Rattle.dm_policy.specs.declared.cause.Cause.{Cause}
 use Rattle.dm_policy.specs.declared.cause.Cause.TheVariants as causes
 use Rattle.dm_ask.proofs.Talking.{rose_since}
-use Rattle.dm_ask.specs.Causes.{net_kind_of}
+use Rattle.dm_ask.specs.Causes.{is_ask_cause, net_kind_of}
 use Rattle.dm_edge.specs.declared.fault.NetFault.{NetFault}
 use Rattle.dm_edge.specs.declared.fault.NetFault.TheVariants as faults
 use Rattle.dm_edge.specs.declared.fault.WireFault.{WireFault}
@@ -21,7 +21,7 @@ use Rattle.dm_attempt.specs.declared.stop.Stop.{Stop}
 use Rattle.dm_attempt.specs.declared.stop.Stop.TheVariants as stops
 use Rattle.dm_attempt.specs.Ending.{IfBroke, IsOfDesk}
 use Rattle.dm_rounds.specs.declared.lane.Lane.{Lane}
-use Rattle.dm_rounds.specs.Lanes.{IsOfContent, NetCounts, ShownOn, SomeShows, is_reading_cause, stop_met}
+use Rattle.dm_rounds.specs.Lanes.{IsOfContent, NetCounts, ShownOn, SomeShows, is_net_cause, is_reading_cause, stop_met}
 
 -- want of memory is apart from every other cause
 pub by_cause : (P : Cause → Stop → Type 0) → P causes.Memory stops.NoMemory → ((cause : Cause) → P cause (stops.Broke cause)) → (cause : Cause) → P cause (stop_met cause)
@@ -134,12 +134,42 @@ desk_own stops.NoMemory apart = tt
 desk_own (stops.Fault fault) apart = tt
 desk_own (stops.Recorded reason) apart = tt
 
+-- a cause of asking that isn't want of memory
+pub ask_own : (cause : Cause) → cause ≢ causes.Memory → IsTrue (is_ask_cause cause) → IsTrue (is_net_cause cause)
+ask_own causes.NetFailed apart is = refl
+ask_own causes.NetTimeout apart is = refl
+ask_own causes.NetNoRoute apart is = refl
+ask_own causes.NetRefused apart is = refl
+ask_own causes.HeadCut apart is = refl
+ask_own causes.BadHead apart is = refl
+ask_own causes.BadLocation apart is = refl
+ask_own causes.TooManyRedirects apart is = refl
+ask_own (causes.Status status) apart is = refl
+ask_own causes.Encoded apart is = refl
+ask_own causes.BadFraming apart is = refl
+ask_own (causes.RangeRefused status) apart is = refl
+ask_own (causes.TooLarge total) apart is = refl
+ask_own causes.Memory apart is = absurd (apart refl)
+ask_own (causes.ContentShort have wanted) apart is = refl
+ask_own (causes.File kind) apart is = absurd (false≢true is)
+ask_own causes.NamesTaken apart is = absurd (false≢true is)
+ask_own causes.BothStand apart is = absurd (false≢true is)
+ask_own (causes.PartShort have wanted) apart is = absurd (false≢true is)
+ask_own (causes.DigestDiffers have wanted) apart is = absurd (false≢true is)
+ask_own causes.Cancel apart is = absurd (false≢true is)
+ask_own causes.Shutdown apart is = absurd (false≢true is)
+ask_own causes.Crash apart is = absurd (false≢true is)
+
+-- such a cause isn't want of memory
+pub net_apart : (cause : Cause) → IsTrue (is_net_cause cause) → cause ≢ causes.Memory
+net_apart cause own e = false≢true (ap is_net_cause (sym e) ∙ own)
+
 -- the net counts a fault of a wire where the lanes' wires go back
 pub net_counts : {W : Type 0} (counts : W → WireFault → ℕ) (lanes : List (Lane W)) (before between after : NetFault → ℕ) (stop : Stop) → IsOfContent stop → SomeShows counts lanes stop
     → ((lane : Lane W) → Contains lanes lane → (kind : WireFault) → 0 < counts lane.wire kind → Rose (between (net_count_of kind)) (after (net_count_of kind)))
     → NoneFell before between → NetCounts before after stop
 net_counts counts lanes before between after (stops.Broke cause) own shows counted later = (
-  λ e. false≢true (ap is_reading_cause (sym e) ∙ own),
+  by_reading (λ (c : Cause). IsTrue (is_net_cause c)) refl refl (λ have wanted. refl) refl (λ total. refl) cause own,
   by_reading (λ (c : Cause). IfSome (cause_kind c) (λ kind. 0 < counts shows.lane.wire kind) → IfSome (net_kind_of c) (λ kind. Rose (before kind) (after kind)))
       (λ some. rose_since (before faults.Failed) (between faults.Failed) (after faults.Failed) (later faults.Failed) (counted shows.lane shows.among wires.Failed some))
       (λ some. rose_since (before faults.Timeout) (between faults.Timeout) (after faults.Timeout) (later faults.Timeout) (counted shows.lane shows.among wires.Timeout some))

@@ -16,7 +16,7 @@ use Rattle.dm_attempt.specs.Trace.{Carried}
 use Rattle.dm_rounds.specs.declared.lane.Lane.{Lane}
 use Rattle.dm_attempt.specs.Shares.{Share, total}
 use Rattle.dm_rounds.specs.Lanes.{Brought, IsLeft, IsRead, InRound, IsWholeRound, IsCarried, IsCutRound, Closes, LaneAsks, SomeBroke, StopSays, closed_lanes, is_at, is_of}
-use Rattle.dm_rounds.proofs.Totals.{total_append, weaker_each, append_each}
+use Rattle.dm_rounds.proofs.Totals.{at_each, total_append, weaker_each, append_each}
 
 -- one of the connections has the number
 pub record Found (P : Carried → Type 0) (wires : List Carried) (n : ℕ) : Type 0 where
@@ -105,17 +105,21 @@ module _ {W : Type 0} (net tells : Type 0) (by : net → tells) (made_for : W �
   contains_map : (lanes : List (Lane W)) (lane : Lane W) → Contains lanes lane → Contains (map carried_of lanes) (carried_of lane)
   contains_map lanes lane (k, within, at) = (k, omega (arith, within, length-map lanes carried_of), get_or-map carried_of lanes k lane (carried_of lane) within ∙ ap carried_of at)
 
+  each_at : (lanes : List (Lane W)) (lane : Lane W) → Contains lanes lane → AllByRecursion (LaneAsks tells made_for told asking) lanes → LaneAsks tells made_for told asking lane
+  each_at lanes lane (k, within, at) all = subst (LaneAsks tells made_for told asking) at (at_each (LaneAsks tells made_for told asking) lanes k lane within all)
+
   -- the stream of one of the closed connections shows why the round stopped
   pub cut_shown : (start now after : List Closed) (lanes : List (Lane W)) (left : AllByRecursion (IsLeft tells told shares) lanes) (closes : net → Closes made_for told now after lanes)
-      (round : InRound net tells made_for told asking start now shares lanes) (stop : Stop) → StopSays told shares lanes stop → IfBroke stop (SomeBroke (cut_round start now after lanes left closes round).wires shares)
+      (round : InRound net tells made_for told asking start now shares lanes) (stop : Stop) → net → StopSays told shares lanes stop → IfBroke stop (SomeBroke (cut_round start now after lanes left closes round).wires shares)
   unfolding carried_of cut_round
-  cut_shown start now after lanes left closes round (stops.Broke cause) says = record {
+  cut_shown start now after lanes left closes round (stops.Broke cause) n says = record {
     c = carried_of says.lane;
     among = Contains-append_right round.wires (map carried_of lanes) (carried_of says.lane) (contains_map lanes says.lane says.among);
     share = says.stops.share;
     share_is = says.stops.share_is;
     is = says.stops.is;
+    sent = (each_at lanes says.lane says.among round.asks).asked.sent_is (by n);
   }
-  cut_shown start now after lanes left closes round stops.NoMemory says = tt
-  cut_shown start now after lanes left closes round (stops.Fault fault) says = tt
-  cut_shown start now after lanes left closes round (stops.Recorded reason) says = tt
+  cut_shown start now after lanes left closes round stops.NoMemory n says = tt
+  cut_shown start now after lanes left closes round (stops.Fault fault) n says = tt
+  cut_shown start now after lanes left closes round (stops.Recorded reason) n says = tt

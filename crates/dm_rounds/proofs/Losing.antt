@@ -9,6 +9,7 @@ use Rattle.dm_policy.specs.declared.cause.Cause.{Cause}
 use Rattle.dm_policy.specs.declared.cause.Cause.TheVariants as causes
 use Rattle.dm_edge.specs.declared.fault.NetFault.{NetFault}
 use Rattle.dm_edge.specs.declared.wanted.Wanted.{Wanted}
+use Rattle.dm_edge.specs.declared.wanted.Wanted.TheVariants.{Whole}
 use Rattle.dm_edge.specs.Causes.{CutsNet, IsNetFault}
 use Rattle.dm_edge.specs.Fair.{ask_of}
 use Rattle.dm_edge.specs.Wire.{Purpose, Closed}
@@ -55,6 +56,7 @@ shows_longer a b c d trace cause earlier later (inr (inl head)) = inr (inl (reco
   among = head.among;
   wanted = head.wanted;
   followed = head.followed;
+  last = head.last;
   sent = sent_longer a b c d (request_of head.connection.purpose.address (ask_of head.wanted)) head.connection.sent cause earlier later head.sent;
   met = head.met;
 }))
@@ -66,8 +68,9 @@ contains_here xs ys c = Contains-append_right xs (c ∷ ys) c (0, omega arith, r
 module _ (wanted : Wanted) (pass : Pass) (first : Address) (a since until d : NetFault → ℕ) (earlier : NoneFell a since) (later : NoneFell until d) (start between : List Closed) (cause : Cause) (other : cause ≢ causes.Memory)
     (stopped : IsStopped wanted (purpose_of pass.id pass.attempt) first since until start between cause) where
   -- the connection that was made last is one of the attempt's, if any was
-  pub asking_shown : (trace : Trace) → ((c : Closed) → between ≡ (start ++ stopped.led) ++ c ∷ [] → Contains (connections_of trace) c) → NetShowsIt a d trace cause
-  asking_shown trace among = elim stopped.ended [
+  pub asking_shown : (trace : Trace) → ((c : Closed) → between ≡ (start ++ stopped.led) ++ c ∷ [] → Contains (connections_of trace) c)
+      → ((c : Closed) → between ≡ (start ++ stopped.led) ++ c ∷ [] → wanted ≡ Whole → trace.led ++ trace.lost ≡ stopped.led ++ c ∷ []) → NetShowsIt a d trace cause
+  asking_shown trace among whole = elim stopped.ended [
     | inl un ↦ by_cut un.1
     | inr off ↦ by_off off
   ]
@@ -90,6 +93,7 @@ module _ (wanted : Wanted) (pass : Pass) (first : Address) (a since until d : Ne
             among = among off.connection off.last;
             wanted = wanted;
             followed = length stopped.led;
+            last = λ w. (stopped.led, whole off.connection off.last w, refl);
             sent = subst (λ (to : Address). SentUntil (CutsNet a d) (request_of to (ask_of wanted)) off.connection.sent cause) (sym here)
                 (sent_longer a since until d (request_of stopped.at (ask_of wanted)) off.connection.sent cause earlier later off.sent);
             met = subst (λ (to : Address). MeetsHead wanted to (length stopped.led) off.connection.stream cause) (sym here) met;

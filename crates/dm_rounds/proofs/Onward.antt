@@ -32,7 +32,7 @@ use Rattle.dm_rounds.specs.Reading.{IsKeyed, IsReading, closed_before}
 use Rattle.dm_rounds.specs.Rounding.{LostOpens, NoneOpens, RoundOpens, next_shares}
 use Rattle.dm_rounds.specs.Running.{IsRunning, later_asking}
 use Rattle.dm_rounds.specs.Trail.{AreRead, AreUsedUp, GoesFrom, IsShown, RunEnds, RunLeaves, RunStops, WasCut, asking_behind}
-use Rattle.dm_rounds.proofs.Causes.{counts_longer}
+use Rattle.dm_rounds.proofs.Causes.{counts_longer, net_apart}
 use Rattle.dm_rounds.proofs.Losing.{asking_shown, contains_here, empty_at, same_behind, shows_longer}
 use Rattle.dm_rounds.proofs.Trails.{closed_more, from_one, from_then, read_cut}
 use Rattle.dm_rounds.proofs.Wired.{holds_wired, opened_with, wired}
@@ -117,8 +117,8 @@ module _ {D O : Type 0} (tells : Type 0) (clock : D → Clock) (says : O → Say
             counted.1,
             λ n.
                 let stopped = subst (λ (x : Stop). StopsAsking source going.pass (part_of lost.round.slice) lost.round.since lost.round.until (closed_before scene trace) lost.round.between x) (sym is) (lost.round.lost n) in
-                asking_shown (range_of source (part_of lost.round.slice)) going.pass source.address before lost.round.since lost.round.until now since lost.round.later (closed_before scene trace) lost.round.between cause counted.0 stopped lost_trace
-                (λ c last. connection_among n stopped.led c last),
+                asking_shown (range_of source (part_of lost.round.slice)) going.pass source.address before lost.round.since lost.round.until now since lost.round.later (closed_before scene trace) lost.round.between cause (net_apart cause counted.0) stopped lost_trace
+                (λ c last. connection_among n stopped.led c last) (λ c last whole. absurd (let e = whole in cc)),
           )
       lost_shown stops.NoMemory is = tt
       lost_shown (stops.Fault fault) is = tt

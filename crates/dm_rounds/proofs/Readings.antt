@@ -144,5 +144,5 @@ module _ {D O W : Type 0} (tells : Type 0) (clock : D → Clock) (says : O → S
     keeps = stops.keeps;
     holds = stops.holds;
     round = cut_round net wires by made_for told asking stops.after (closed_before scene older) closed after lanes stops.left closes stops.round;
-    shown = λ n. cut_shown net wires by made_for told asking stops.after (closed_before scene older) closed after lanes stops.left closes stops.round stop (stops.stops (by n));
+    shown = λ n. cut_shown net wires by made_for told asking stops.after (closed_before scene older) closed after lanes stops.left closes stops.round stop n (stops.stops (by n));
   }

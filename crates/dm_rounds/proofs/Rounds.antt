@@ -53,6 +53,7 @@ read_other net asking k old new grows c none is = record {
   brought = is.brought;
   whole = is.whole;
   alone = is.alone;
+  stands = is.stands;
 }
 
 -- the lane at a place
@@ -149,7 +150,7 @@ module _ {W : Type 0} (lanes : List (Lane W)) (k : ℕ) (was lane : Lane W) (wit
         once = λ n short. omega (arith, round.once n (omega (arith, short, long)), once_set n);
       }
 
-module _ {W : Type 0} (net tells : Type 0) (by : net → tells) (told : W → Told) (shares : List Share) (lane : Lane W) (full : IsFull tells told shares lane) where
+module _ {W : Type 0} (net tells : Type 0) (by : net → tells) (made_for : W → Purpose) (told : W → Told) (key : Key) (shares : List Share) (lane : Lane W) (full : IsFull tells made_for told key shares lane) where
   pub whole_by : (full.left.share.part.first + length full.left.share.bytes ≡ full.left.share.part.end) ⊎ (net → IsWhole lane.reader.wanted (stream_of (told lane.wire)) full.left.share.bytes)
   whole_by = elim full.whole [
     | inl all ↦ inl (subst (λ (p : Part). p.first + length full.left.share.bytes ≡ p.end) (sym full.left.part_is) all)
@@ -161,7 +162,7 @@ module _ {W : Type 0} (net tells : Type 0) (by : net → tells) (told : W → To
 
 -- a lane is done, and its wire goes back
 pub round_close : {W : Type 0} (net : Type 0) (tells : Type 0) (by : net → tells) (made_for : W → Purpose) (told : W → Told) (asking : Asking) (start now after : List Closed) (shares : List Share) (lanes : List (Lane W)) (k : ℕ) (lane : Lane W)
-    → k < length lanes → lane ≡ get_or lanes k lane → IsFull tells told shares lane → (net → after ≡ now ++ closed_of (made_for lane.wire) (told lane.wire) ∷ [])
+    → k < length lanes → lane ≡ get_or lanes k lane → IsFull tells made_for told asking.key shares lane → (net → after ≡ now ++ closed_of (made_for lane.wire) (told lane.wire) ∷ [])
     → InRound net tells made_for told asking start now shares lanes → InRound net tells made_for told asking start after shares (remove lanes k)
 round_close {W} net tells by made_for told asking start now after shares lanes k lane within at full closes round =
     let own : Carried = record { part = lane.part; wanted = lane.reader.wanted; connection = closed_of (made_for lane.wire) (told lane.wire) } in
@@ -177,8 +178,9 @@ round_close {W} net tells by made_for told asking start now after shares lanes k
         share_is = full.left.share_is;
         asked = let a = (subst Asks (sym at) (at_each Asks lanes k lane within round.asks)).asked in record { wanted_is = a.wanted_is; first_is = a.first_is; purpose_is = λ n. a.purpose_is (by n); sent_is = λ n. a.sent_is (by n) };
         brought = λ n. full.left.brought (by n);
-        whole = whole_by net tells by told shares lane full;
-        alone = λ wanted known. alone_by net tells by told shares lane full ((subst Asks (sym at) (at_each Asks lanes k lane within round.asks)).bounded_is ∙ known) wanted;
+        whole = whole_by net tells by made_for told asking.key shares lane full;
+        alone = λ wanted known. alone_by net tells by made_for told asking.key shares lane full ((subst Asks (sym at) (at_each Asks lanes k lane within round.asks)).bounded_is ∙ known) wanted;
+        stands = λ n. full.stands (by n);
       });
       asks = remove_each Asks lanes k round.asks;
       once = λ n short. omega (arith, round.once n short, total_append (is_of n) round.wires (own ∷ []), total_remove (is_at n) lanes k lane within, ap (is_at n) at);

@@ -11,14 +11,15 @@ use Rattle.dm_edge.specs.Reply.{IsWhole, ContentBroke}
 use Rattle.dm_reply.specs.declared.got.Got.TheVariants.{Bytes, End}
 use Rattle.dm_reply.specs.declared.body.Body.{Body}
 use Rattle.dm_reply.specs.declared.body.Body.TheVariants as body
-use Rattle.dm_reply.specs.Content.{EndsAll, Reader, HasRead, counted_of, first_some}
+use Rattle.dm_reply.specs.Content.{EndsAll, Reader, HasRead, counted_of, first_some, framing_of}
 use Rattle.dm_reply.specs.Steps.{least_of, most_of}
+use Rattle.dm_reply.proofs.StreamLemmas.{content_more}
 use Rattle.dm_slice.specs.declared.plan.Part.{Part}
 use Rattle.dm_rounds.specs.declared.lane.Lane.{Lane}
 use Rattle.dm_rounds.specs.declared.lane.Turn.{Turn}
 use Rattle.dm_rounds.specs.declared.lane.Turn.TheVariants as turns
 use Rattle.dm_attempt.specs.Shares.{Share, IsNext, added}
-use Rattle.dm_rounds.specs.Lanes.{Brought, read, broke, GoesOn, HasGiven, LaneBroke, IsLeft, IsReady, IsFull, PieceMoves, PieceSays, TurnIs, TurnSays, most_by, most_given, told_count}
+use Rattle.dm_rounds.specs.Lanes.{Brought, read, broke, GoesOn, HasGiven, LaneBroke, IsLeft, IsReady, IsFull, PieceMoves, PieceSays, StandsUnder, TurnIs, TurnSays, most_by, most_given, told_count}
 use Rattle.dm_attempt.proofs.Sharing.{added_at}
 
 -- the most of a body by what it tells
@@ -81,6 +82,16 @@ module _ {W : Type 0} (tells : Type 0) (made_for : W → Purpose) (told : W → 
     is = subst (λ (w : Wanted). ContentBroke w (stream_of (told new.wire)) ready.left.share.bytes cause) (sym wanted) (says t ready.left.share.bytes (ready.reads t));
   }
 
+  -- the stream's head has the key
+  stands_by : (bytes : List ℕ) → HasGiven key (made_for old.wire) old.reader.wanted (told new.wire).given new.reader bytes → StandsUnder key (made_for new.wire) new.reader.wanted (stream_of (told new.wire))
+  stands_by bytes has =
+      let framed = has.has.framed in
+      subst (λ (w : Wanted). StandsUnder key (made_for new.wire) w (stream_of (told new.wire))) (sym wanted) (subst (λ (p : Purpose). StandsUnder key p old.reader.wanted (stream_of (told new.wire))) (sym stays) (record {
+        tag = has.tag;
+        has = record { head = has.head; framing = framing_of new.reader.reading.body; rest = framed.bytes ++ (told new.wire).left; begins = content_more framed.begins (told new.wire).left; tag_is = has.tag_is };
+        key_is = has.key_is;
+      }))
+
   -- of a whole reply of known length all was given
   all_given : EndsAll old.reader (Ok End) → new.bounded ≡ old.bounded → new.bounded ≡ true → new.reader.wanted ≡ Whole → new.part.first + length ready.left.share.bytes ≡ new.part.end
   all_given all bounded known whole =
@@ -92,7 +103,7 @@ module _ {W : Type 0} (tells : Type 0) (made_for : W → Purpose) (told : W → 
 
   pub end_full : EndsAll old.reader (Ok End) → new.bounded ≡ old.bounded → (buffer : List ℕ)
       → (tells → (bytes : List ℕ) → HasGiven key (made_for old.wire) old.reader.wanted (told old.wire).given old.reader bytes → PieceSays key made_for told old new (Ok End) buffer bytes)
-      → IsFull tells told shares new
+      → IsFull tells made_for told key shares new
   end_full all bounded buffer says =
       let bytes = ready.left.share.bytes in
       record {
@@ -104,6 +115,7 @@ module _ {W : Type 0} (tells : Type 0) (made_for : W → Purpose) (told : W → 
         };
         whole = inr (λ t. subst (λ (w : Wanted). IsWhole w (stream_of (told new.wire)) bytes) (sym wanted) (says t bytes (ready.reads t)).0);
         alone = all_given all bounded;
+        stands = λ t. stands_by bytes (says t bytes (ready.reads t)).1;
       }
 
   module _ (n room : ℕ) (buffer : List ℕ) (moves : PieceMoves old new (Ok (Bytes n)) room) (within : n ≤ length buffer) where
@@ -165,4 +177,4 @@ module _ {W : Type 0} (tells : Type 0) (made_for : W → Purpose) (told : W → 
         reads = λ t. subst (λ (p : Purpose). HasGiven key p new.reader.wanted (told new.wire).given new.reader (ready.left.share.bytes ++ take n buffer)) (sym stays)
             (subst (λ (w : Wanted). HasGiven key (made_for old.wire) w (told new.wire).given new.reader (ready.left.share.bytes ++ take n buffer)) (sym wanted) (says t ready.left.share.bytes (ready.reads t)));
       }
-      landed_says turns.Whole is = record { left = landed_left; whole = inl (sym at_is ∙ is); alone = λ known whole. sym at_is ∙ is }
+      landed_says turns.Whole is = record { left = landed_left; whole = inl (sym at_is ∙ is); alone = λ known whole. sym at_is ∙ is; stands = λ t. stands_by (ready.left.share.bytes ++ take n buffer) (says t ready.left.share.bytes (ready.reads t)) }

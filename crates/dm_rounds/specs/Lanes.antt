@@ -11,11 +11,12 @@ use Rattle.dm_edge.specs.declared.fault.WireFault.{WireFault}
 use Rattle.dm_edge.specs.declared.wanted.Wanted.{Wanted}
 use Rattle.dm_edge.specs.declared.wanted.Wanted.TheVariants.{Whole}
 use Rattle.dm_edge.specs.Begins.{most_content}
-use Rattle.dm_edge.specs.Fair.{key_of}
+use Rattle.dm_edge.specs.Fair.{HasTag, ask_of, key_of}
 use Rattle.dm_edge.specs.Fields.{fields_of}
 use Rattle.dm_edge.specs.Metadata.{IsStrongTag}
 use Rattle.dm_edge.specs.Reply.{IsWhole, ContentBroke}
 use Rattle.dm_edge.specs.Wire.{Purpose, Told, Closed, closed_of, stream_of}
+use Rattle.dm_request.specs.Request.{request_of}
 use Rattle.dm_ask.specs.Causes.{net_kind_of}
 use Rattle.dm_reply.specs.declared.got.Got.{Got}
 use Rattle.dm_reply.specs.declared.got.Got.TheVariants.{Bytes, End}
@@ -87,11 +88,18 @@ pub record IsReady {W : Type 0} (tells : Type 0) (made_for : W → Purpose) (tol
   pub whole : lane.bounded ≡ true → lane.reader.wanted ≡ Whole → TellsEnd lane
   pub reads : tells → HasGiven key (made_for lane.wire) lane.reader.wanted (told lane.wire).given lane.reader left.share.bytes
 
--- All of the part was landed, or all that the stream has. Of a part of known end that a whole reply brings all was landed.
-pub record IsFull {W : Type 0} (tells : Type 0) (told : W → Told) (shares : List Share) (lane : Lane W) : Type 0 where
+-- the stream has a head with the wanted content, under whose tag the content's key stands
+pub record StandsUnder (key : Key) (purpose : Purpose) (wanted : Wanted) (stream : List ℕ) : Type 0 where
+  pub tag : Option (List ℕ)
+  pub has : HasTag wanted stream tag
+  pub key_is : key ≡ key_of purpose tag
+
+-- All of the part was landed, or all that the stream has, whose head has the content's key. Of a part of known end that a whole reply brings all was landed.
+pub record IsFull {W : Type 0} (tells : Type 0) (made_for : W → Purpose) (told : W → Told) (key : Key) (shares : List Share) (lane : Lane W) : Type 0 where
   pub left : IsLeft tells told shares lane
   pub whole : (lane.part.first + length left.share.bytes ≡ lane.part.end) ⊎ (tells → IsWhole lane.reader.wanted (stream_of (told lane.wire)) left.share.bytes)
   pub alone : lane.bounded ≡ true → lane.reader.wanted ≡ Whole → lane.part.first + length left.share.bytes ≡ lane.part.end
+  pub stands : tells → StandsUnder key (made_for lane.wire) lane.reader.wanted (stream_of (told lane.wire))
 
 -- what an answer does to a lane's place and reader
 abbrev pub PieceMoves : {W : Type 0} → Lane W → Lane W → Result Got Cause → ℕ → Type 0
@@ -113,7 +121,7 @@ TurnIs lane turns.Whole = lane.at ≡ lane.part.end
 
 abbrev pub TurnSays : {W : Type 0} → Type 0 → (W → Purpose) → (W → Told) → Key → List Share → Lane W → Turn → Type 0
 TurnSays tells made_for told key shares lane turns.More = IsReady tells made_for told key shares lane
-TurnSays tells made_for told key shares lane turns.Whole = IsFull tells told shares lane
+TurnSays tells made_for told key shares lane turns.Whole = IsFull tells made_for told key shares lane
 
 abbrev pub TurnMoves : {W : Type 0} → Lane W → Lane W → Result Turn Stop → Type 0
 TurnMoves old new (Ok turns.More) = (old.at < new.at) × (new.at ≤ new.part.end)
@@ -165,7 +173,7 @@ pub record LaneAsks {W : Type 0} (tells : Type 0) (made_for : W → Purpose) (to
 abbrev pub WasAsked : Type 0 → Asking → Carried → Type 0
 WasAsked net asking c = IsAsked net asking c.part c.wanted c.connection.purpose c.connection.sent
 
--- Its part was landed whole from it: to its end, or to the stream's. To the part's end where a whole reply of known length brought it.
+-- Its part was landed whole from it, under the content's key: to its end, or to the stream's. To the part's end where a whole reply of known length brought it.
 pub record IsRead (net : Type 0) (asking : Asking) (shares : List Share) (c : Carried) : Type 0 where
   pub share : Share
   pub share_is : slice_get shares c.part.index ≡ Some share
@@ -173,6 +181,7 @@ pub record IsRead (net : Type 0) (asking : Asking) (shares : List Share) (c : Ca
   pub brought : net → Brought c.wanted c.connection.stream share.bytes
   pub whole : (share.part.first + length share.bytes ≡ share.part.end) ⊎ (net → IsWhole c.wanted c.connection.stream share.bytes)
   pub alone : c.wanted ≡ Whole → asking.known ≡ true → share.part.first + length share.bytes ≡ share.part.end
+  pub stands : net → StandsUnder asking.key c.connection.purpose c.wanted c.connection.stream
 
 -- 1 where the lane's part has this number
 abbrev pub is_at : {W : Type 0} → ℕ → Lane W → ℕ
@@ -231,17 +240,36 @@ pub record IsCutRound (net : Type 0) (asking : Asking) (start now : List Closed)
   pub once : (n : ℕ) → n < length shares → total (is_of n) wires ≡ 1
   pub each : AllByRecursion (IsCarried net asking shares) wires
 
--- one of the connections has this cause behind what was landed of its part
+-- one of the connections was sent its whole request, and has this cause behind what was landed of its part
 pub record SomeBroke (wires : List Carried) (shares : List Share) (cause : Cause) : Type 0 where
   pub c : Carried
   pub among : Contains wires c
   pub share : Share
   pub share_is : slice_get shares c.part.index ≡ Some share
   pub is : ContentBroke c.wanted c.connection.stream share.bytes cause
+  pub sent : c.connection.sent ≡ request_of c.connection.purpose.address (ask_of c.wanted)
 
--- A cause that is to be recorded isn't want of memory, and where it is a fault of the net or of a wire, the net counted it meanwhile.
+-- the causes that asking and reading may have, but for want of memory
+abbrev pub is_net_cause : Cause → Bool
+is_net_cause causes.NetFailed = true
+is_net_cause causes.NetTimeout = true
+is_net_cause causes.NetNoRoute = true
+is_net_cause causes.NetRefused = true
+is_net_cause causes.HeadCut = true
+is_net_cause causes.BadHead = true
+is_net_cause causes.BadLocation = true
+is_net_cause causes.TooManyRedirects = true
+is_net_cause (causes.Status status) = true
+is_net_cause causes.Encoded = true
+is_net_cause causes.BadFraming = true
+is_net_cause (causes.RangeRefused status) = true
+is_net_cause (causes.TooLarge total) = true
+is_net_cause (causes.ContentShort have told) = true
+is_net_cause _ = false
+
+-- A cause that is to be recorded is one of asking or reading, and not want of memory; where it is a fault of the net or of a wire, the net counted it meanwhile.
 abbrev pub NetCounts : (NetFault → ℕ) → (NetFault → ℕ) → Stop → Type 0
-NetCounts before after stop = IfBroke stop (λ cause. (cause ≢ causes.Memory) × IfSome (net_kind_of cause) (λ kind. Rose (before kind) (after kind)))
+NetCounts before after stop = IfBroke stop (λ cause. IsTrue (is_net_cause cause) × IfSome (net_kind_of cause) (λ kind. Rose (before kind) (after kind)))
 
 -- the causes that end the reading of a content, but for want of memory
 abbrev pub is_reading_cause : Cause → Bool

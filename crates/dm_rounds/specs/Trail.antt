@@ -1,5 +1,5 @@
 -- All rounds of an attempt: how they ask, which connections they had, and how one more attempt of them stops.
-use Rattle.std.specs.Prelude.{◌≡◌, ◌≢◌, ◌⊎◌, ◌<◌, ◌≤◌, ℕ, List, [], ◌∷◌, ◌++◌, length, slice_get, Some, true, false, Result, Ok, Err, IfSome}
+use Rattle.std.specs.Prelude.{◌≡◌, ◌⊎◌, ◌<◌, ◌≤◌, ℕ, List, [], ◌∷◌, ◌++◌, length, slice_get, Some, true, false, Result, Ok, Err, IfSome, IsTrue}
 use Rattle.std.specs.List.{AllByRecursion, Contains}
 use Rattle.dm_types.specs.Faults.{Rose}
 use Rattle.dm_types.specs.declared.item.Key.TheVariants.{Strong}
@@ -10,6 +10,7 @@ use Rattle.dm_policy.specs.declared.cause.Cause.{Cause}
 use Rattle.dm_policy.specs.declared.cause.Cause.TheVariants as causes
 use Rattle.dm_edge.specs.declared.fault.NetFault.{NetFault}
 use Rattle.dm_edge.specs.declared.wanted.Wanted.{Wanted}
+use Rattle.dm_edge.specs.declared.wanted.Wanted.TheVariants.{Whole}
 use Rattle.dm_edge.specs.Causes.{CutsNet, IsNetFault}
 use Rattle.dm_edge.specs.Fair.{ask_of}
 use Rattle.dm_edge.specs.Wire.{Closed}
@@ -31,7 +32,7 @@ use Rattle.dm_attempt.specs.Scene.{Scene, begun_by, cover_by}
 use Rattle.dm_attempt.specs.Shares.{Share, total}
 use Rattle.dm_attempt.specs.Shows.{DeskDone, total_by}
 use Rattle.dm_attempt.specs.Trace.{Done, Round, Trace, connections_of, untold, with_saves}
-use Rattle.dm_rounds.specs.Lanes.{IsRead, SomeBroke, is_of}
+use Rattle.dm_rounds.specs.Lanes.{IsRead, SomeBroke, is_net_cause, is_of}
 use Rattle.dm_rounds.specs.Opened.{WasTried}
 use Rattle.dm_rounds.specs.Reading.{IsKeyed, closed_before}
 
@@ -71,13 +72,14 @@ pub record GoesFrom (older later : Trace) : Type 0 where
   pub newer : List Round
   pub rounds_are : later.rounds ≡ newer ++ older.rounds
 
--- The head on one of the attempt's connections shows the cause, where so many connections had led on. It was sent the whole request for what was wanted, or the
--- cause cut it off.
+-- The head on one of the attempt's connections shows the cause, where so many connections had led on: of a whole content just those before it, of all that belong to
+-- no round. It was sent the whole request for what was wanted, or the cause cut it off.
 pub record HeadShows (before after : NetFault → ℕ) (trace : Trace) (cause : Cause) : Type 0 where
   pub connection : Closed
   pub among : Contains (connections_of trace) connection
   pub wanted : Wanted
   pub followed : ℕ
+  pub last : wanted ≡ Whole → (led : List Closed) × (trace.led ++ trace.lost ≡ led ++ connection ∷ []) × (followed ≡ length led)
   pub sent : SentUntil (CutsNet before after) (request_of connection.purpose.address (ask_of wanted)) connection.sent cause
   pub met : MeetsHead wanted connection.purpose.address followed connection.stream cause
 
@@ -97,10 +99,11 @@ pub record AreUsedUp {D O : Type 0} (scene : Scene D O) (trace : Trace) (cause :
   pub place : ℕ
   pub missing : IsFirstMissing (total_by scene trace) (cover_by scene trace) place
 
--- A cause isn't want of memory, and where it is the net's, the net counted it, over any net; and where the net tells, it shows. Or the rounds are used up.
+-- A cause is one of asking or reading, and not want of memory, and where it is the net's, the net counted it, over any net; and where the net tells, it shows. Or the
+-- rounds are used up.
 abbrev pub IsShown : {D O : Type 0} → Type 0 → (NetFault → ℕ) → (NetFault → ℕ) → Scene D O → Trace → Cause → Type 0
 IsShown net before after scene trace cause =
-    AreUsedUp scene trace cause ⊎ ((cause ≢ causes.Memory) × IfSome (net_kind_of cause) (λ kind. Rose (before kind) (after kind)) × (net → NetShowsIt before after trace cause))
+    AreUsedUp scene trace cause ⊎ (IsTrue (is_net_cause cause) × IfSome (net_kind_of cause) (λ kind. Rose (before kind) (after kind)) × (net → NetShowsIt before after trace cause))
 
 -- The attempt brought all that the trace has, and is over by that. These are all its connections.
 pub record HasEnded {D O : Type 0} (tells : Type 0) (clock : D → Clock) (says : O → Says) (far : D → ℕ) (counts : D → DiskKind → ℕ) (net : Type 0) (scene : Scene D O) (pass : Pass) (present : View D O) (closed : List Closed) (trace : Trace) : Type 0 where

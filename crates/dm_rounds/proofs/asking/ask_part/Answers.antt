@@ -5,6 +5,7 @@ use Rattle.dm_edge.specs.Fair.{ask_of, IsOrdered}
 use Rattle.dm_ask.specs.Asked.{IsReached}
 use Rattle.dm_ask.specs.Following.{IsAnswered, IsPart, IsStopped}
 use Rattle.dm_ask.specs.Redirects.{purpose_of}
+use Rattle.dm_rounds.proofs.Causes.{ask_own}
 use Rattle.dm_rounds.proofs.Asks.{ask_met, heard_lane, new_turn, none_closed}
 use Rattle.dm_rounds.proofs.asking.ask_part.Goals as goal
 
@@ -59,7 +60,7 @@ returns-in-Broke-clause-stopped g c t =
     c.in-Ok.ensures (c.in-Broke.ensures.stopped t)
 
 pub returns-in-Broke-clause-counted : goal.returns-in-Broke-clause-counted
-returns-in-Broke-clause-counted g c = (c.in-Broke.ensures.apart, c.in-Broke.ensures.shown.counted)
+returns-in-Broke-clause-counted g c = (ask_own c.in-Broke.cause c.in-Broke.ensures.apart c.in-Broke.ensures.shown.own, c.in-Broke.ensures.shown.counted)
 
 pub returns-in-Broke-clause-met : goal.returns-in-Broke-clause-met
 returns-in-Broke-clause-met g c = ask_met c.in-Broke.cause c.in-Broke.ensures.shown.own
