@@ -1,5 +1,5 @@
 -- Where each request is served whole, no head has a cause, and no content breaks.
-use Rattle.std.proofs.Common.{◌≡◌, ◌≢◌, ◌⊎◌, inl, inr, ℕ, List, ◌++◌, ap, subst}
+use Rattle.std.proofs.Common.{◌≡◌, ◌≢◌, ◌⊎◌, inl, inr, ℕ, List, ◌++◌, refl, ap, subst}
 use Rattle.std.specs.Prelude.{IfSome}
 use Rattle.dm_types.specs.Faults.{NoneRose, Rose}
 use Rattle.dm_types.specs.declared.address.Address.{Address}
@@ -13,7 +13,7 @@ use Rattle.dm_edge.specs.declared.wanted.Wanted.{Wanted}
 use Rattle.dm_edge.specs.declared.wanted.Wanted.TheVariants.{Part, Whole}
 use Rattle.dm_edge.specs.declared.framing.Framing.{Framing}
 use Rattle.dm_edge.specs.declared.framing.Framing.TheVariants as framings
-use Rattle.dm_edge.specs.Begins.{BeginsContent, BeginsRedirect, IsOfWire}
+use Rattle.dm_edge.specs.Begins.{BeginsContent, BeginsRedirect, HasRedirect, IsOfWire}
 use Rattle.dm_edge.specs.Reply.{ContentBroke, IsWhole}
 use Rattle.dm_ask.specs.Causes.{MeetsHead, net_kind_of, ninth, nowhere, refused, too_many}
 use Rattle.dm_ask.specs.Redirects.{most_redirects}
@@ -51,6 +51,13 @@ redirect_no_content stream head location begins given cause broke =
 abbrev pub IsQuiet : (NetFault → ℕ) → (NetFault → ℕ) → Cause → Type 0
 IsQuiet before after cause = IfSome (net_kind_of cause) (λ kind. Rose (before kind) (after kind))
 
+-- a whole content was wanted, so many redirects were followed, and another one came
+pub record IsEleventh (wanted : Wanted) (followed : ℕ) (stream : List ℕ) : Type 0 where
+  pub whole : wanted ≡ Whole
+  pub many : followed ≡ most_redirects
+  pub location : List ℕ
+  pub redirects : HasRedirect Whole stream location
+
 module _ (before after : NetFault → ℕ) (none : NoneRose before after) (cause : Cause) (counted : IsQuiet before after cause) where
   -- the cause is no fault of a wire
   pub no_wire : IsOfWire cause → ⊥
@@ -80,17 +87,17 @@ module _ (before after : NetFault → ℕ) (none : NoneRose before after) (cause
   one_location stream head other location told one two = ap (λ (o : Outcome). location_of o told) (one_outcome Whole stream (Redirect head location) (Redirect other told) one two)
 
   -- where the stream leads on, only too many redirects are met
-  pub head_leads : (at : Address) (followed : ℕ) (stream : List ℕ) → LeadsOn at stream → MeetsHead Whole at followed stream cause → (cause ≡ causes.TooManyRedirects) × (followed ≡ most_redirects)
+  pub head_leads : (at : Address) (followed : ℕ) (stream : List ℕ) → LeadsOn at stream → MeetsHead Whole at followed stream cause → followed ≡ most_redirects
   head_leads at followed stream leads (ninth is) = absurd (broke_alone.no_redirect Whole stream cause leads.redirects.head leads.location no_wire (inr (inl is)) leads.redirects.begins)
   head_leads at followed stream leads (refused is) = absurd (broke_alone.no_redirect Whole stream cause leads.redirects.head leads.location no_wire (inr (inr is)) leads.redirects.begins)
   head_leads at followed stream leads (nowhere location is redirects none_there) =
       absurd (none_there leads.next (subst (λ (l : List ℕ). IsNext at l leads.next) (one_location stream leads.redirects.head redirects.head leads.location location leads.redirects.begins redirects.begins) leads.is_next))
-  head_leads at followed stream leads (too_many location is redirects many) = (is, many)
+  head_leads at followed stream leads (too_many location is redirects many) = many
 
   -- a reply that serves has no cause in its head but an eleventh redirect
-  pub served_head : (wanted : Wanted) (at : Address) (followed : ℕ) (stream : List ℕ) → Serves wanted at stream → MeetsHead wanted at followed stream cause → (cause ≡ causes.TooManyRedirects) × (followed ≡ most_redirects)
+  pub served_head : (wanted : Wanted) (at : Address) (followed : ℕ) (stream : List ℕ) → Serves wanted at stream → MeetsHead wanted at followed stream cause → IsEleventh wanted followed stream
   served_head Whole at followed stream (inl brings) met = absurd (head_whole Whole at followed stream brings.content brings.whole met)
-  served_head Whole at followed stream (inr leads) met = head_leads at followed stream leads met
+  served_head Whole at followed stream (inr leads) met = record { whole = refl; many = head_leads at followed stream leads met; location = leads.location; redirects = leads.redirects }
   served_head (Part first last tag total) at followed stream serves met = absurd (head_whole (Part first last tag total) at followed stream serves.brings.content serves.brings.whole met)
 
   -- and its content doesn't break

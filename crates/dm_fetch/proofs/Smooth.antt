@@ -1,10 +1,11 @@
 -- Where nothing fails and all is served, few causes stop an attempt.
-use Rattle.std.proofs.Common.{◌≡◌, ◌≢◌, ◌⊎◌, ◌<◌, inl, inr, ℕ, suc, zero, length, List, [], ◌∷◌, ◌++◌, map, Option, Some, None, refl, sym, ◌∙◌, ap, subst, arith}
-use Rattle.std.specs.Prelude.{IfSome, slice_index_or}
+use Rattle.std.proofs.Common.{◌≡◌, ◌≢◌, ◌⊎◌, inl, inr, ℕ, length, length-append, List, [], ◌∷◌, ◌++◌, map, Option, Some, None, refl, sym, ◌∙◌, ap, subst, arith}
+use Rattle.std.specs.Prelude.{IfSome}
 use Rattle.std.specs.List.{AllByRecursion, Contains}
-use Rattle.std.proofs.lemmas.List.{get_or-map, length-map}
+use Rattle.std.proofs.lemmas.List.{append-nil, get_or-map, length-map}
 use Rattle.std.proofs.lemmas.List.Elements.{Contains-append_left, Contains-append_right}
 use Rattle.dm_types.specs.Faults.{NoneRose, Rose}
+use Rattle.dm_types.specs.declared.address.Address.{Address}
 use Rattle.dm_types.specs.declared.item.Item.{Item}
 use Rattle.dm_types.specs.declared.item.ItemId.{ItemId}
 use Rattle.dm_types.specs.declared.item.Key.{Key}
@@ -18,10 +19,11 @@ use Rattle.dm_policy.specs.declared.cause.Cause.TheVariants as causes
 use Rattle.dm_request.specs.Request.{request_of}
 use Rattle.dm_edge.specs.Causes.{CutsNet, IsNetFault}
 use Rattle.dm_edge.specs.Fair.{ask_of}
-use Rattle.dm_edge.specs.Wire.{Closed}
+use Rattle.dm_edge.specs.Wire.{Closed, Purpose}
 use Rattle.dm_edge.specs.declared.fault.NetFault.{NetFault}
 use Rattle.dm_ask.specs.Causes.{net_kind_of}
 use Rattle.dm_ask.specs.Following.{SentUntil}
+use Rattle.dm_ask.specs.Redirects.{Led, most_redirects, purpose_of}
 use Rattle.dm_item.specs.History.{get}
 use Rattle.dm_item.specs.Listing.{item_in}
 use Rattle.dm_kept.specs.Files.{Says}
@@ -34,17 +36,15 @@ use Rattle.dm_attempt.specs.declared.ended.Ended.{Ended}
 use Rattle.dm_attempt.specs.declared.ended.Ended.TheVariants as ended
 use Rattle.dm_attempt.specs.Ending.{FaultEnds, IsDeskCause}
 use Rattle.dm_attempt.specs.Scene.{Scene, begun_by}
-use Rattle.dm_attempt.specs.Asking.{Asking}
-use Rattle.dm_attempt.specs.Trace.{Carried, Round, Tale, Trace, connections_of, wires_of}
-use Rattle.dm_rounds.specs.First.{ToldRounds, first_asking}
-use Rattle.dm_rounds.specs.Lanes.{SomeBroke}
-use Rattle.dm_rounds.specs.Opened.{IsFrontSent, WasTried}
-use Rattle.dm_rounds.specs.Trail.{AreCut, ContentShows, HeadShows, IsShown, NetShowsIt, WasCut, kept_asking}
+use Rattle.dm_attempt.specs.Trace.{Carried, Round, Trace, connections_of, wires_of}
+use Rattle.dm_rounds.specs.First.{IsLedAndLost, IsLostAt}
+use Rattle.dm_rounds.specs.Trail.{AreCut, ContentShows, HeadShows, IsShown, NetShowsIt}
+use Rattle.dm_rounds.proofs.Causes.{net_apart}
 use Rattle.dm_fetch.specs.Attempts.{Asks, Attempts, IsMetBy, MetAtNet, TriedBy, anew, at_desk, at_net, begins_at, nothing, on, refused, tried, wanting}
-use Rattle.dm_fetch.specs.Completes.{CompletesOr, IsLeft, IsSmooth, NewestCutOff, cut, desk, eleventh, used}
-use Rattle.dm_fetch.specs.Serves.{HasAddress, ServesWhole}
+use Rattle.dm_fetch.specs.Completes.{CompletesOr, IsLeft, IsSmooth}
+use Rattle.dm_fetch.specs.Serves.{HasAddress, IsRedirection, IsRowOf, ServesWhole}
 use Rattle.dm_fetch.specs.Starts.{scene_of}
-use Rattle.dm_fetch.proofs.Served.{served_content, served_head}
+use Rattle.dm_fetch.proofs.Served.{IsEleventh, served_content, served_head}
 
 last_address : (item : Item) (address : Option (List ℕ)) → HasAddress item.first_address → IfSome address HasAddress → HasAddress (get address item.first_address)
 last_address item None first last = first
@@ -67,11 +67,11 @@ module _ (before after : NetFault → ℕ) (none : NoneRose before after) (trace
   all_sent request sent (inr front) = absurd (no_cut front.0)
 
   module _ (counted : IfSome (net_kind_of cause) (λ kind. Rose (before kind) (after kind))) where
-    head_left : HeadShows before after trace cause → cause ≡ causes.TooManyRedirects
+    head_left : (shows : HeadShows before after trace cause) → IsEleventh shows.wanted shows.followed shows.connection.stream
     head_left shows =
         let c = shows.connection in
-        (served_head before after none cause counted shows.wanted c.purpose.address shows.followed c.stream
-        (serves.each c shows.wanted shows.among (all_sent (request_of c.purpose.address (ask_of shows.wanted)) c.sent shows.sent)) shows.met).0
+        served_head before after none cause counted shows.wanted c.purpose.address shows.followed c.stream
+        (serves.each c shows.wanted shows.among (all_sent (request_of c.purpose.address (ask_of shows.wanted)) c.sent shows.sent)) shows.met
 
 contains_map : {X Y : Type 0} (f : X → Y) (xs : List X) (x : X) → Contains xs x → Contains (map f xs) (f x)
 contains_map f xs x among = (among.0, omega (arith, among.1, length-map xs f), get_or-map f xs among.0 x (f x) among.1 ∙ ap f among.2)
@@ -85,68 +85,104 @@ newest_among trace round older is c among =
     (subst (λ (rounds : List Round). Contains (wires_of rounds) c.connection) (sym is)
     (Contains-append_right (wires_of older) own c.connection (contains_map (λ (w : Carried). w.connection) round.wires c among))))
 
-module _ {X : Type 0} (P : X → Type 0) where
-  at_place : (xs : List X) (k : ℕ) (x : X) → AllByRecursion P xs → k < length xs → P (slice_index_or xs k x)
-  at_place [] k x all within = absurd (omega (arith, within))
-  at_place (y ∷ ys) zero x all within = all.0
-  at_place (y ∷ ys) (suc k) x all within = at_place ys k x all.1 (omega (arith, within))
+-- the last of a list
+abbrev last_or : Closed → List Closed → Closed
+last_or other [] = other
+last_or other (c ∷ row) = last_or c row
 
-  all_among : (xs : List X) (x : X) → AllByRecursion P xs → Contains xs x → P x
-  all_among xs x all among = subst P among.2 (at_place xs among.0 x all among.1)
+last_is : (other : Closed) (row : List Closed) (c : Closed) → last_or other (row ++ c ∷ []) ≡ c
+last_is other [] c = refl
+last_is other (first ∷ row) c = last_is first row c
 
--- the newest round was given up, or brought whole
-abbrev NewestCut : Type 0 → List Round → Type 0
-NewestCut net [] = Unit {0}
-NewestCut net (round ∷ older) = WasCut net round
+row_refl : (row later : List Closed) → IsRowOf row (row ++ later)
+row_refl [] later = tt
+row_refl (c ∷ row) later = inl (refl, row_refl row later)
 
-newest_cut : (net : Type 0) (first : Asking) (rounds : List Round) → AreCut net first rounds → NewestCut net rounds
-newest_cut net first [] are = tt
-newest_cut net first (round ∷ older) are = are.1
+row_later : (row between : List Closed) (all : List Closed) → IsRowOf row all → IsRowOf row (between ++ all)
+row_later row [] all is = is
+row_later [] (other ∷ between) all is = tt
+row_later (c ∷ row) (other ∷ between) all is = inr (row_later (c ∷ row) between all is)
 
-told_cut : (net : Type 0) (pass : Pass) (told : Option Tale) (rounds : List Round) → ToldRounds (AreCut net) pass told rounds → NewestCut net rounds
-told_cut net pass None rounds none = subst (NewestCut net) (sym none) tt
-told_cut net pass (Some tale) rounds are = newest_cut net (first_asking pass tale) rounds are
+row_both : (row more all : List Closed) → IsRowOf more all → IsRowOf (row ++ more) (row ++ all)
+row_both [] more all is = is
+row_both (c ∷ row) more all is = inl (refl, row_both row more all is)
 
-module _ {D O : Type 0} (tells : Type 0) (clock : D → Clock) (says : O → Says) (far : D → ℕ) (counts : D → DiskKind → ℕ) (net : Type 0) where
-  asked_cut : (scene : Scene D O) (pass : Pass) (slices : ℕ) (trace : Trace) → Asks tells clock says far counts net scene pass slices (AreCut net) trace → NewestCut net trace.rounds
-  asked_cut scene pass slices trace (nothing asks) = subst (NewestCut net) (sym asks.rounds) tt
-  asked_cut scene pass slices trace (anew asks) = told_cut net pass trace.told trace.rounds asks.rounds
-  asked_cut scene pass slices trace (on asks) = newest_cut net (kept_asking pass asks.source) trace.rounds asks.rounds
+-- the connections that belong to no round are among all
+lost_row : (led wires lost : List Closed) → IsRowOf (led ++ lost) (led ++ (wires ++ lost))
+lost_row led wires lost = row_both led lost (wires ++ lost) (row_later lost wires lost (subst (IsRowOf lost) (append-nil lost) (row_refl lost [])))
 
-module _ {D O : Type 0} (tells : Type 0) (clock : D → Clock) (says : O → Says) (far : D → ℕ) (counts : D → DiskKind → ℕ) (net : Type 0) (t : net) (scene : Scene D O) (pass : Pass) (before after : NetFault → ℕ) (none : NoneRose before after) (trace : Trace)
-    (serves : ServesWhole (begun_by scene) (connections_of trace)) (cut_is : NewestCut net trace.rounds) (cause : Cause) where
-  abbrev Left : Type 0
-  Left = IsLeft tells clock says far counts scene pass trace cause
+all_led : (made_for : Address → Purpose) (from : Address) (led : List Closed) (to : Address) → Led made_for from led to → AllByRecursion IsRedirection led
+all_led made_for from [] to leads = tt
+all_led made_for from (c ∷ later) to leads = (record { location = leads.1.location; redirects = leads.1.redirects }, all_led made_for leads.0 later to leads.2)
 
-  module _ (counted : IfSome (net_kind_of cause) (λ kind. Rose (before kind) (after kind))) (apart : cause ≢ causes.Memory) where
-    sent_left : (round : Round) (older : List Round) → trace.rounds ≡ round ∷ older → (shows : SomeBroke round.wires round.shares cause)
-        → IsFrontSent (request_of shows.c.connection.purpose.address (ask_of shows.c.wanted)) shows.c.connection.sent → NewestCutOff trace.rounds
-    sent_left round older is shows (inl whole) =
-        let c = shows.c.connection in
-        absurd (served_content before after none cause counted apart shows.c.wanted c.purpose.address c.stream shows.share.bytes
-        (serves.each c shows.c.wanted (newest_among trace round older is shows.c shows.among) whole) shows.is)
-    sent_left round older is shows (inr front) = subst NewestCutOff (sym is) (record { c = shows.c; among = shows.among; count = front.0; sent = front.1 })
+all_both : (xs ys : List Closed) → AllByRecursion IsRedirection xs → AllByRecursion IsRedirection ys → AllByRecursion IsRedirection (xs ++ ys)
+all_both [] ys all more = more
+all_both (x ∷ xs) ys all more = (all.0, all_both xs ys all.1 more)
 
-    content_left : (rounds : List Round) → trace.rounds ≡ rounds → NewestCut net rounds → ContentShows rounds cause → NewestCutOff trace.rounds
-    content_left [] is was shows = absurd shows
-    content_left (round ∷ older) is was shows = sent_left round older is shows (all_among (WasTried round.asking round.shares) round.wires shows.c (was.each t) shows.among).sent
+none_last : (led : List Closed) (c : Closed) → [] ≡ led ++ c ∷ [] → ⊥
+none_last [] c is = absurd cc
+none_last (first ∷ led) c is = absurd cc
 
-    showing_left : NetShowsIt before after trace cause → Left
-    showing_left (inl fault) = absurd (no_fault before after none trace (begun_by scene) serves cause apart fault)
-    showing_left (inr (inl shows)) = eleventh (head_left before after none trace (begun_by scene) serves cause apart counted shows)
-    showing_left (inr (inr shows)) = cut (content_left trace.rounds refl cut_is shows)
+-- the connections that led on, and one more that does, are redirections
+all_redirect : (pass : Pass) (first : Address) (connections : List Closed) → IsLedAndLost pass first connections → (led : List Closed) (c : Closed) → connections ≡ led ++ c ∷ [] → IsRedirection c → AllByRecursion IsRedirection connections
+all_redirect pass first connections was led c is redirects = by was.last was.last_is was.are
+  where
+    by : (last : List Closed) → IsLostAt pass was.at last → connections ≡ was.led ++ last → AllByRecursion IsRedirection connections
+    by [] lost are = subst (AllByRecursion IsRedirection) (sym are) (all_both was.led [] (all_led (purpose_of pass.id pass.attempt) first was.led was.at was.leads) tt)
+    by (one ∷ []) lost are =
+        let same : one ≡ c = sym (last_is one was.led one) ∙ ap (last_or one) (sym are ∙ is) ∙ last_is one led c in
+        subst (AllByRecursion IsRedirection) (sym are)
+        (all_both was.led (one ∷ []) (all_led (purpose_of pass.id pass.attempt) first was.led was.at was.leads) (subst IsRedirection (sym same) redirects, tt))
+    by (one ∷ two ∷ more) lost are = absurd lost
 
-  shown_left : IsShown net before after scene trace cause → Left
-  shown_left (inl up) = used up
-  shown_left (inr shown) = showing_left shown.1 shown.0 (shown.2 t)
+module _ {D O : Type 0} (tells : Type 0) (clock : D → Clock) (says : O → Says) (far : D → ℕ) (counts : D → DiskKind → ℕ) (net : Type 0) (t : net) where
+  asked_redirect : (scene : Scene D O) (pass : Pass) (slices : ℕ) (trace : Trace) → Asks tells clock says far counts net scene pass slices (AreCut net) trace → (led : List Closed) (c : Closed) → trace.led ++ trace.lost ≡ led ++ c ∷ [] → IsRedirection c
+      → AllByRecursion IsRedirection (trace.led ++ trace.lost)
+  asked_redirect scene pass slices trace (nothing asks) led c is redirects = absurd (none_last led c (ap (λ (l : List Closed). l ++ []) (sym asks.led) ∙ ap (λ (l : List Closed). trace.led ++ l) (sym asks.lost) ∙ is))
+  asked_redirect scene pass slices trace (anew asks) led c is redirects = all_redirect pass asks.first (trace.led ++ trace.lost) (asks.fresh.led t) led c is redirects
+  asked_redirect scene pass slices trace (on asks) led c is redirects = absurd (none_last led c (ap (λ (l : List Closed). l ++ []) (sym asks.led) ∙ ap (λ (l : List Closed). trace.led ++ l) (sym asks.lost) ∙ is))
 
-  net_left : MetAtNet net before after scene trace cause → Left
-  net_left (inl unread) = let there = begins_read (begun_by scene).key (begun_by scene) serves.first serves.last in absurd (unread.unstable there.address there.stable)
-  net_left (inr shown) = shown_left shown
+  module _ (scene : Scene D O) (pass : Pass) (slices : ℕ) (before after : NetFault → ℕ) (none : NoneRose before after) (trace : Trace) (asks : Asks tells clock says far counts net scene pass slices (AreCut net) trace)
+      (serves : ServesWhole (begun_by scene) (connections_of trace)) (cause : Cause) where
+    abbrev Left : Type 0
+    Left = IsLeft tells clock says far counts scene pass trace cause
 
-  met_left : (saves : List (List Slice)) → IsMetBy tells clock says far counts net scene pass before after trace saves cause → Left
-  met_left saves (at_desk shows) = desk shows
-  met_left saves (at_net shows saved) = net_left shows
+    eleven : (led : List Closed) (c : Closed) → trace.led ++ trace.lost ≡ led ++ c ∷ [] → IsRedirection c → length led ≡ most_redirects → ⊥
+    eleven led c is redirects many =
+        let few = serves.few (trace.led ++ trace.lost) (lost_row trace.led (wires_of trace.rounds) trace.lost) (asked_redirect scene pass slices trace asks led c is redirects) in
+        let long = ap (λ (l : List Closed). length l) is in
+        omega (arith, few, long, length-append led (c ∷ []), many)
+
+    module _ (counted : IfSome (net_kind_of cause) (λ kind. Rose (before kind) (after kind))) (apart : cause ≢ causes.Memory) where
+      content_left : (rounds : List Round) → trace.rounds ≡ rounds → ContentShows rounds cause → ⊥
+      content_left [] is shows = shows
+      content_left (round ∷ older) is shows =
+          let c = shows.c.connection in
+          served_content before after none cause counted apart shows.c.wanted c.purpose.address c.stream shows.share.bytes
+          (serves.each c shows.c.wanted (newest_among trace round older is shows.c shows.among) shows.sent) shows.is
+
+      head_none : HeadShows before after trace cause → ⊥
+      head_none shows =
+          let eleventh = head_left before after none trace (begun_by scene) serves cause apart counted shows in
+          let last = shows.last eleventh.whole in
+          eleven last.0 shows.connection last.1 (record { location = eleventh.location; redirects = eleventh.redirects }) (sym last.2 ∙ eleventh.many)
+
+      showing_none : NetShowsIt before after trace cause → ⊥
+      showing_none (inl fault) = no_fault before after none trace (begun_by scene) serves cause apart fault
+      showing_none (inr (inl shows)) = head_none shows
+      showing_none (inr (inr shows)) = content_left trace.rounds refl shows
+
+    shown_left : IsShown net before after scene trace cause → Left
+    shown_left (inl up) = inr up
+    shown_left (inr shown) = absurd (showing_none shown.1 (net_apart cause shown.0) (shown.2 t))
+
+    net_left : MetAtNet net before after scene trace cause → Left
+    net_left (inl unread) = let there = begins_read (begun_by scene).key (begun_by scene) serves.first serves.last in absurd (unread.unstable there.address there.stable)
+    net_left (inr shown) = shown_left shown
+
+    met_left : (saves : List (List Slice)) → IsMetBy tells clock says far counts net scene pass before after trace saves cause → Left
+    met_left saves (at_desk shows) = inl shows
+    met_left saves (at_net shows saved) = net_left shows
 
 module _ {D O : Type 0} (tells : Type 0) (clock : D → Clock) (says : O → Says) (far : D → ℕ) (counts : D → DiskKind → ℕ) (net : Type 0) (old new : View D O) (was closed : List Closed) (before after : NetFault → ℕ) (id : ItemId) (by : By) (slices at : ℕ)
     (smooth : IsSmooth tells clock counts net old new was closed before after id by at) where
@@ -183,8 +219,8 @@ module _ {D O : Type 0} (tells : Type 0) (clock : D → Clock) (says : O → Say
           trace = done.trace;
           cause = done.ends.cause;
           end_is = ap (λ (r : Reason). ended.Stopped r) done.ends.reason_is;
-          is = met_left tells clock says far counts net smooth.told scene (pass_of item) before after smooth.quiet done.trace (smooth.serves item there (connections_of done.trace) (done.closed_is smooth.told))
-              (asked_cut tells clock says far counts net scene (pass_of item) slices done.trace done.asks) done.ends.cause done.ends.saves done.ends.met;
+          is = met_left tells clock says far counts net smooth.told scene (pass_of item) slices before after smooth.quiet done.trace done.asks
+              (smooth.serves item there (connections_of done.trace) (done.closed_is smooth.told)) done.ends.cause done.ends.saves done.ends.met;
         };
       }))
 

@@ -1,6 +1,5 @@
 -- When an attempt completes.
-use Rattle.std.specs.Prelude.{◌≡◌, ◌⊎◌, ℕ, List, [], ◌∷◌, ◌++◌, take, Some}
-use Rattle.std.specs.List.{Contains}
+use Rattle.std.specs.Prelude.{◌≡◌, ◌⊎◌, ℕ, List, ◌++◌, Some}
 use Rattle.dm_types.specs.Faults.{NoneRose}
 use Rattle.dm_types.specs.declared.item.Item.{Item}
 use Rattle.dm_types.specs.declared.item.ItemId.{ItemId}
@@ -9,9 +8,6 @@ use Rattle.dm_types.specs.declared.kinds.DiskKind.{DiskKind}
 use Rattle.dm_disk_model.specs.Disk.{History as Clock}
 use Rattle.dm_policy.specs.Cause.{reason_of_cause}
 use Rattle.dm_policy.specs.declared.cause.Cause.{Cause}
-use Rattle.dm_policy.specs.declared.cause.Cause.TheVariants as causes
-use Rattle.dm_request.specs.Request.{request_of}
-use Rattle.dm_edge.specs.Fair.{ask_of}
 use Rattle.dm_edge.specs.Wire.{Closed}
 use Rattle.dm_edge.specs.declared.fault.NetFault.{NetFault}
 use Rattle.dm_item.specs.Listing.{item_in}
@@ -26,7 +22,7 @@ use Rattle.dm_attempt.specs.declared.ended.Ended.{Ended}
 use Rattle.dm_attempt.specs.declared.ended.Ended.TheVariants as ended
 use Rattle.dm_attempt.specs.Ending.{IsDeskCause}
 use Rattle.dm_attempt.specs.Scene.{Scene, changed_all}
-use Rattle.dm_attempt.specs.Trace.{Carried, Round, Trace}
+use Rattle.dm_attempt.specs.Trace.{Trace}
 use Rattle.dm_rounds.specs.Trail.{AreUsedUp}
 use Rattle.dm_fetch.specs.Serves.{ServesWhole}
 use Rattle.dm_fetch.specs.Starts.{BeginRefuses, scene_of}
@@ -39,24 +35,9 @@ pub record IsSmooth {D O : Type 0} (tells : Type 0) (clock : D → Clock) (count
   pub begins : (fault : DeskFault) → BeginRefuses tells clock counts old new id by at fault → fault ≡ faults.NoMemory
   pub serves : (item : Item) → item_in id.0 old.items.items ≡ Some item → (connections : List Closed) → closed ≡ was ++ connections → ServesWhole (changed_all (beginning item by at) item) connections
 
--- one of the round's connections was sent a front of its request
-pub record WasCutOff (round : Round) : Type 0 where
-  pub c : Carried
-  pub among : Contains round.wires c
-  pub count : ℕ
-  pub sent : c.connection.sent ≡ take count (request_of c.connection.purpose.address (ask_of c.wanted))
-
--- so it was in the newest round
-abbrev pub NewestCutOff : List Round → Type 0
-NewestCutOff [] = ⊥
-NewestCutOff (round ∷ older) = WasCutOff round
-
--- what may stop an attempt even so: what the desk shows, the rounds are used up, an eleventh redirect came, or a request wasn't sent whole
-pub data IsLeft {D O : Type 0} (tells : Type 0) (clock : D → Clock) (says : O → Says) (far : D → ℕ) (counts : D → DiskKind → ℕ) (scene : Scene D O) (pass : Pass) (trace : Trace) (cause : Cause) : Type 0 where
-  desk : IsDeskCause tells clock says far counts scene pass trace cause → IsLeft tells clock says far counts scene pass trace cause
-  used : AreUsedUp scene trace cause → IsLeft tells clock says far counts scene pass trace cause
-  eleventh : cause ≡ causes.TooManyRedirects → IsLeft tells clock says far counts scene pass trace cause
-  cut : NewestCutOff trace.rounds → IsLeft tells clock says far counts scene pass trace cause
+-- what may stop an attempt even so: what the desk shows, or the rounds are used up
+abbrev pub IsLeft : {D O : Type 0} → Type 0 → (D → Clock) → (O → Says) → (D → ℕ) → (D → DiskKind → ℕ) → Scene D O → Pass → Trace → Cause → Type 0
+IsLeft tells clock says far counts scene pass trace cause = IsDeskCause tells clock says far counts scene pass trace cause ⊎ AreUsedUp scene trace cause
 
 -- it was stopped so
 pub record StopsEvenSo {D O : Type 0} (tells : Type 0) (clock : D → Clock) (says : O → Says) (far : D → ℕ) (counts : D → DiskKind → ℕ) (old : View D O) (was : List Closed) (before : NetFault → ℕ) (by : By) (at : ℕ) (end : Ended) (item : Item) : Type 0 where

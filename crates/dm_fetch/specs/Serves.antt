@@ -1,5 +1,5 @@
 -- Which servers bring a content whole.
-use Rattle.std.specs.Prelude.{◌≡◌, ◌⊎◌, ◌≤◌, ℕ, List, ◌++◌, length, IfSome}
+use Rattle.std.specs.Prelude.{◌≡◌, ◌⊎◌, ◌≤◌, ℕ, List, [], ◌∷◌, length, IfSome}
 use Rattle.std.specs.List.{AllByRecursion, Contains}
 use Rattle.dm_types.specs.declared.address.Address.{Address}
 use Rattle.dm_types.specs.declared.item.Item.{Item}
@@ -47,9 +47,15 @@ pub record IsRedirection (c : Closed) : Type 0 where
   pub location : List ℕ
   pub redirects : HasRedirect Whole c.stream location
 
--- The item's addresses are read as themselves, each whole request on these connections is served, and no more than ten redirects come in a row.
+-- these connections are among the others, in their order
+abbrev pub IsRowOf : List Closed → List Closed → Type 0
+IsRowOf [] all = Unit {0}
+IsRowOf (c ∷ row) [] = ⊥
+IsRowOf (c ∷ row) (other ∷ all) = ((c ≡ other) × IsRowOf row all) ⊎ IsRowOf (c ∷ row) all
+
+-- The item's addresses are read as themselves, each whole request on these connections is served, and no more than ten of them are redirects.
 pub record ServesWhole (item : Item) (connections : List Closed) : Type 0 where
   pub first : HasAddress item.first_address
   pub last : IfSome item.last_address HasAddress
   pub each : (c : Closed) (wanted : Wanted) → Contains connections c → c.sent ≡ request_of c.purpose.address (ask_of wanted) → Serves wanted c.purpose.address c.stream
-  pub few : (earlier row later : List Closed) → connections ≡ earlier ++ (row ++ later) → AllByRecursion IsRedirection row → length row ≤ most_redirects
+  pub few : (row : List Closed) → IsRowOf row connections → AllByRecursion IsRedirection row → length row ≤ most_redirects
