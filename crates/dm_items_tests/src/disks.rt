@@ -1,5 +1,5 @@
 // What calls answer over disks that fail once or hold other files, and at a full list.
-use crate::bench::{disk, files, has, open, put};
+use crate::bench::{MemoryDesk, disk, files, has, open, put};
 use crate::calls::{Call, Said, first_other};
 use crate::passes::{
     AGAIN, ANEW, ASKED, FIRST, LEFT_HALF, ON, OTHER, OTHER_PART, PART, REST, RIGHT_HALF, TOLD,
@@ -7,7 +7,7 @@ use crate::passes::{
 };
 use dm_disk::{FailingCall, MemoryDisk};
 use dm_items::{Begun, DeskFault, Finished, Named, Taken};
-use dm_types::{Attempt, By, DiskKind, ItemId, Mode, Phase, Reason};
+use dm_types::{Attempt, By, DiskKind, ItemId, Mode, NoMemory, Phase, Reason};
 use std::alloc::Global;
 use std::test::Fail;
 
@@ -342,5 +342,31 @@ fn a_desk_takes_4096_items(rt: HostRuntime) -> Result<(), Fail> {
         assert_eq!(rt; other, None);
     }
     assert_eq!(rt; first_other(alloc, &mut desk, &FULL), None);
+    Ok(())
+}
+
+/// Whether these are the ids above a number, at most so many.
+fn lists(desk: &MemoryDesk, after: u32, limit: u32, ids: &[ItemId]) -> Result<bool, NoMemory> {
+    let page = desk.page(after, limit)?;
+    Ok(page.items() == ids)
+}
+
+const THREE: [(Call, Said); 4] = [
+    (Call::Add(b"w1"), Said::Taken(Taken::New(ItemId(1)))),
+    (Call::Add(b"w1"), Said::Taken(Taken::Same(ItemId(1)))),
+    (Call::Add(b""), Said::Taken(Taken::New(ItemId(2)))),
+    (Call::Add(b""), Said::Taken(Taken::New(ItemId(3)))),
+];
+
+#[test]
+fn ids_are_listed_by_pages(rt: HostRuntime) -> Result<(), Fail> {
+    let alloc = rt.alloc();
+    let Ok(mut desk) = open(alloc, disk(alloc, None, None)?) else {
+        return Err("not opened".into());
+    };
+    assert_eq!(rt; first_other(alloc, &mut desk, &THREE), None);
+    assert!(rt; lists(&desk, 0, 50, &[ItemId(1), ItemId(2), ItemId(3)])?);
+    assert!(rt; lists(&desk, 1, 1, &[ItemId(2)])?);
+    assert!(rt; lists(&desk, 3, 50, &[])?);
     Ok(())
 }
