@@ -23,3 +23,6 @@ returns-in-Cancel-clause-decides g c = for_job c.args.desk.now c.cancel.new.desk
 
 pub returns-in-Remove-clause-decides : goal.returns-in-Remove-clause-decides
 returns-in-Remove-clause-decides g c = for_job c.args.desk.now c.remove.new.desk c.args.at c.args.job (jobs.Remove c.in-Remove.id) c.remove.result c.in-Remove.is (c.remove.ensures.decides c.args.at)
+
+pub returns-in-Resume-clause-decides : goal.returns-in-Resume-clause-decides
+returns-in-Resume-clause-decides g c = for_job c.args.desk.now c.resume.new.desk c.args.at c.args.job (jobs.Resume c.in-Resume.id c.in-Resume.slices) c.resume.result c.in-Resume.is (c.resume.ensures.decides c.args.at)
