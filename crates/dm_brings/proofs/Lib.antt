@@ -1,3 +1,4 @@
 pub mod Counts
+pub mod Shown
 pub mod Steps
 pub mod Brings
