@@ -86,30 +86,33 @@ fn rows_are_kept_in_memory(rt: HostRuntime) -> Result<(), Fail> {
     Ok(())
 }
 
-#[test]
-fn rows_are_kept_by_sqlite(rt: HostRuntime) -> Result<(), Fail> {
-    let mut keeper = SqlKeeper::open_in_memory(rt.alloc())?;
-    assert!(rt; keeps_rows(rt.alloc(), &mut keeper)?);
-    Ok(())
+/// Whether the rows are kept in a file that is made, or are found in it again. Each keeper over a file is
+/// opened here, and in no other function: to prove that one is let go takes minutes.
+fn is_in_file(
+    rt: &HostRuntime,
+    alloc: Global,
+    path: &str,
+    is_new: bool,
+) -> Result<bool, KeeperFault> {
+    let mut keeper = SqlKeeper::open(alloc, rt, path)?;
+    if is_new {
+        keeps_rows(alloc, &mut keeper)
+    } else {
+        is_found_again(alloc, &mut keeper)
+    }
 }
 
-/// Whether the rows are kept in a file, and found there again.
-fn keeps_in_file(rt: &HostRuntime, alloc: Global, path: &str) -> Result<bool, KeeperFault> {
-    let mut keeper = SqlKeeper::open(alloc, rt, path)?;
-    keeps_rows(alloc, &mut keeper)
-}
-
-fn is_found_again(rt: &HostRuntime, alloc: Global, path: &str) -> Result<bool, KeeperFault> {
-    let mut keeper = SqlKeeper::open(alloc, rt, path)?;
-    Ok(is_left(&mut keeper)? && has(alloc, &mut keeper, (9, b"w", true))?)
+fn is_found_again<K: Keeper>(alloc: Global, keeper: &mut K) -> Result<bool, KeeperFault> {
+    Ok(is_left(keeper)? && has(alloc, keeper, (9, b"w", true))?)
 }
 
 #[test]
 fn rows_stay_in_a_file(rt: HostRuntime) -> Result<(), Fail> {
     let _ = fs::remove_dir_all(&rt, "dm_hist_file");
     fs::create_dir(&rt, "dm_hist_file")?;
-    assert!(rt; keeps_in_file(&rt, rt.alloc(), "dm_hist_file/history.sqlite")?);
-    assert!(rt; is_found_again(&rt, rt.alloc(), "dm_hist_file/history.sqlite")?);
+    let path = "dm_hist_file/history.sqlite";
+    assert!(rt; is_in_file(&rt, rt.alloc(), path, true)?);
+    assert!(rt; is_in_file(&rt, rt.alloc(), path, false)?);
     fs::remove_dir_all(&rt, "dm_hist_file")?;
     Ok(())
 }
@@ -123,8 +126,8 @@ fn a_file_that_is_no_database_is_refused(rt: HostRuntime) -> Result<(), Fail> {
         "dm_hist_bad/history.sqlite",
         b"no database, but a text of some length",
     )?;
-    let opened = SqlKeeper::open(rt.alloc(), &rt, "dm_hist_bad/history.sqlite");
-    assert!(rt; opened.is_err());
+    let found = is_in_file(&rt, rt.alloc(), "dm_hist_bad/history.sqlite", false);
+    assert!(rt; found.is_err());
     fs::remove_dir_all(&rt, "dm_hist_bad")?;
     Ok(())
 }
@@ -145,10 +148,20 @@ fn a_hundred_thousand_rows_in_memory(rt: HostRuntime) -> Result<(), Fail> {
     Ok(())
 }
 
+/// Whether rows are kept, and ten thousand over them.
+fn keeps_all<K: Keeper>(alloc: Global, keeper: &mut K) -> Result<bool, KeeperFault> {
+    Ok(keeps_rows(alloc, keeper)? && keeps_many(alloc, keeper, 10_000)?)
+}
+
+/// The one keeper of this kind is opened here.
+fn keeps_in_sqlite(alloc: Global) -> Result<bool, KeeperFault> {
+    let mut keeper = SqlKeeper::open_in_memory(alloc)?;
+    keeps_all(alloc, &mut keeper)
+}
+
 #[test]
-fn ten_thousand_rows_in_sqlite(rt: HostRuntime) -> Result<(), Fail> {
-    let mut keeper = SqlKeeper::open_in_memory(rt.alloc())?;
-    assert!(rt; keeps_many(rt.alloc(), &mut keeper, 10_000)?);
+fn rows_are_kept_by_sqlite(rt: HostRuntime) -> Result<(), Fail> {
+    assert!(rt; keeps_in_sqlite(rt.alloc())?);
     Ok(())
 }
 
