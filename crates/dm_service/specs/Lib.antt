@@ -1,0 +1,4 @@
+pub mod Tasks
+pub mod Replies
+pub mod Api
+pub mod Answering

@@ -1,0 +1,75 @@
+-- What is replied, by how a job goes on.
+use Rattle.std.specs.Prelude.{ℕ, Bool, true, false, nat_lt, if◌then◌else◌, List, [], ◌∷◌, take, codes, Option, Some, None}
+use Rattle.serde_json.specs.Data.{Data, boolean, object, no_members, put}
+use Rattle.serde_json.specs.Written.{compact_text}
+use Rattle.dm_types.specs.declared.item.Item.{Item}
+use Rattle.dm_types.specs.declared.item.ItemId.{ItemId}
+use Rattle.dm_report.specs.declared.verdict.Verdict.{Verdict}
+use Rattle.dm_report.specs.declared.verdict.Verdict.TheVariants as verdicts
+use Rattle.dm_does.specs.declared.course.Course.{Course}
+use Rattle.dm_does.specs.declared.course.Course.TheVariants.{Brings, Ends}
+use Rattle.dm_does.specs.declared.course.Show.{Show}
+use Rattle.dm_does.specs.declared.course.Show.TheVariants as shows
+use Rattle.dm_call.specs.declared.call.Window.{Window}
+use Rattle.dm_response.specs.Json.{item_data, items_data, number_data}
+use Rattle.dm_response.specs.Reply.{reply_of, trouble_of}
+use Rattle.dm_response.specs.declared.reply.ApiReply.{ApiReply}
+use Rattle.dm_response.specs.declared.reply.Media.TheVariants.{Json}
+use Rattle.dm_response.specs.declared.trouble.Trouble.{Trouble}
+use Rattle.dm_response.specs.declared.trouble.Trouble.TheVariants as troubles
+
+-- a reply of status 200 with this content
+abbrev pub told : Data → Bool → ApiReply
+told content stop = reply_of 200 Json None (compact_text content) stop
+
+abbrev pub removed_data : ItemId → Data
+removed_data id = object (put (codes "removed") (number_data id.0) no_members)
+
+abbrev pub stopping_data : Data
+stopping_data = object (put (codes "stopping") (boolean true) no_members)
+
+-- the items from the first id above this one on
+abbrev pub items_after : ℕ → List Item → List Item
+items_after after [] = []
+items_after after (item ∷ rest) = if nat_lt after item.id.0 then item ∷ rest else items_after after rest
+
+-- part of the list, which is by rising id
+abbrev pub page_of : Window → List Item → List Item
+page_of window items = take window.limit (items_after window.after items)
+
+abbrev pub page_by : List Item → Window → ApiReply
+page_by items window = told (items_data (page_of window items)) false
+
+abbrev pub stop_by : ApiReply
+stop_by = told stopping_data true
+
+-- an item as it stands behind the request's entries
+abbrev pub shown : Option Item → ApiReply
+shown None = trouble_of troubles.Memory
+shown (Some item) = told (item_data item) false
+
+-- why a job isn't done, where it isn't
+abbrev pub trouble_by : Verdict → Option Trouble
+trouble_by verdicts.Done = None
+trouble_by (verdicts.NoItem id) = Some troubles.NoItem
+trouble_by (verdicts.WrongState phase) = Some (troubles.WrongState phase)
+trouble_by (verdicts.ItemsFull count) = Some (troubles.Full count)
+trouble_by (verdicts.OtherWord id) = Some (troubles.OtherWord id)
+trouble_by (verdicts.DiskFailed kind) = Some troubles.Disk
+trouble_by _ = Some troubles.Memory
+
+-- what a job that is done shows: an item, or that it is removed
+abbrev pub done_by : ItemId → Option Item → Show → ApiReply
+done_by id item shows.Nothing = told (removed_data id) false
+done_by id item (shows.Line shown_id) = shown item
+done_by id item shows.Lines = shown item
+done_by id item (shows.Whole shown_id) = shown item
+
+abbrev pub ended_by : ItemId → Option Item → Show → Option Trouble → ApiReply
+ended_by id item show None = done_by id item show
+ended_by id item show (Some trouble) = trouble_of trouble
+
+-- the reply by the course, where it shows this item
+abbrev pub reply_by : ItemId → Option Item → Course → ApiReply
+reply_by id item (Ends verdict show) = ended_by id item show (trouble_by verdict)
+reply_by id item (Brings brought slices) = shown item

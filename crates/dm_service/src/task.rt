@@ -1,0 +1,57 @@
+//! What is to be done for a call.
+ghost use Rattle.std.specs.Prelude.{◌≡◌};
+ghost use Rattle.dm_service.specs.Tasks.{order_by, task_by};
+
+use dm_answers::Order;
+use dm_call::{Call, Named, Window};
+use dm_does::Job;
+
+/// What is to be done for a call.
+#[derive(Debug, Drop)]
+pub enum Task {
+    /// A job at the list.
+    Job(Job),
+    /// Part of the list is shown.
+    Page(Window),
+    /// What is over goes to the history.
+    Archive,
+    /// Part of the history is shown.
+    History(Window),
+    /// The service ends.
+    Stop,
+}
+
+/// What is to be done for the call. To resume asks for the item again, and brings nothing here.
+pub fn task_of(call: Call) -> Task
+    ensures { result ≡ task_by call }
+{
+    match call {
+        Call::Page(window) => Task::Page(window),
+        Call::Add(named) => Task::Job(Job::Add(order_of(named))),
+        Call::Show(id) => Task::Job(Job::Show(id)),
+        Call::Remove(id) => Task::Job(Job::Remove(id)),
+        Call::Pause(id) => Task::Job(Job::Pause(id)),
+        Call::Resume(id) => Task::Job(Job::Resume(id, 1)),
+        Call::Cancel(id) => Task::Job(Job::Cancel(id)),
+        Call::Archive => Task::Archive,
+        Call::History(window) => Task::History(window),
+        Call::Stop => Task::Stop,
+    }
+}
+
+fn order_of(named: Named) -> Order
+    ensures { result ≡ order_by named }
+{
+    let Named {
+        word,
+        address,
+        name,
+        digest,
+    } = named;
+    Order {
+        word,
+        address,
+        wish: name,
+        digest,
+    }
+}
