@@ -1,12 +1,13 @@
 -- Texts at the front of others, and the place of the first space.
-use Rattle.std.proofs.Common.{◌≡◌, ◌∙◌, ℕ, ◌+◌, ◌<◌, Bool, true, false, ◌&&◌, nat_lt, List, [], ◌∷◌, ◌++◌, length, take, drop, Option, Some, None, refl, sym, ap, subst, arith, Bor, length-append}
+use Rattle.std.proofs.Common.{◌≡◌, ◌∙◌, ℕ, ◌+◌, ◌<◌, Bool, true, false, ◌&&◌, nat_lt, List, [], ◌∷◌, ◌++◌, length, take, drop, Option, Some, None, refl, sym, ap, subst, arith, Bor, append_assoc}
 use Rattle.std.specs.Prelude.{IfNone, IfSome, MatchOption}
 use Rattle.std.specs.List.{list_all}
 use Rattle.std.specs.Str.{bytes_eq}
 use Rattle.std.proofs.lemmas.Bool.{false≢true, lt-ltb, ltb-true}
-use Rattle.std.proofs.lemmas.List.{take-append-drop, take_at}
+use Rattle.std.proofs.lemmas.List.{append-nil, take-append-drop, take_at}
+use Rattle.std.proofs.lemmas.Grind.{flat_map-append}
 use Rattle.std.proofs.lemmas.Slice.Eq.{bytes_eq-Decides}
-use Rattle.httparse.specs.Grammar.{LineEnd, crlf, is_token, is_uri_byte, lf, print_end}
+use Rattle.httparse.specs.Grammar.{LineEnd, crlf, is_token, is_uri_byte, lf, print_blank, print_end}
 use Rattle.dm_target.specs.Target.{BeginsEnd, BeginsLine, is_front, space_in}
 
 pub stripped : (r : Option (Bor (List ℕ))) (line text : List ℕ)
@@ -46,3 +47,10 @@ pub no_front : (line : List ℕ) → space_in line ≡ length line → is_front 
 no_front line none =
     ap (λ (n : ℕ). nat_lt n (length line) && is_token (take n line) && list_all is_uri_byte (drop (n + 1) line)) none
     ∙ ap (λ (b : Bool). b && is_token (take (length line) line) && list_all is_uri_byte (drop (length line + 1) line)) (same_test (length line))
+
+pub one_more_end : (front line rest : List ℕ) (blank : List LineEnd) (end : LineEnd) → front ≡ print_blank blank ++ line → line ≡ print_end end ++ rest
+    → front ≡ print_blank (blank ++ end ∷ []) ++ rest
+one_more_end front line rest blank end is ends =
+    let more : print_blank (blank ++ end ∷ []) ≡ print_blank blank ++ print_end end =
+    flat_map-append print_end blank (end ∷ []) ∙ ap (λ (t : List ℕ). print_blank blank ++ t) (append-nil (print_end end)) in
+    is ∙ ap (λ (t : List ℕ). print_blank blank ++ t) ends ∙ sym (append_assoc (print_blank blank) (print_end end) rest) ∙ ap (λ (t : List ℕ). t ++ rest) (sym more)
