@@ -33,8 +33,8 @@ moves-preserved g c = record {
 
 pub returns-in-Ok-false-clause-answers : goal.returns-in-Ok-false-clause-answers
 returns-in-Ok-false-clause-answers g c =
-    let left : c.count.result ≡ length c.move_next.new.desk.items.items = c.count.ensures ∙ ap (λ (v : Listing). length v.items) c.items-in-Ok-false.ensures in
-    let all : c.count-before.result ≡ length c.args.desk.now.items.items = c.count-before.ensures ∙ ap (λ (v : Listing). length v.items) c.items.ensures in
+    let left : c.count.result ≡ length c.move_next.new.desk.items.items = c.count.ensures ∙ ap (λ (v : Listing). length v.items) c.items-in-Ok-false.ensures.items in
+    let all : c.count-before.result ≡ length c.args.desk.now.items.items = c.count-before.ensures ∙ ap (λ (v : Listing). length v.items) c.items.ensures.items in
     done_answers g.D.Disk.tells g.K.Keeper.tells g.D.Disk.history g.D.Disk.faults g.D.Disk.far (λ o. said_of (g.O.Origin.says o)) c.args.desk.now c.moves.desk (g.K.Keeper.rows c.args.keeper.now) (g.K.Keeper.rows c.moves.keeper) (g.K.Keeper.faults c.args.keeper.now) (g.K.Keeper.faults c.moves.keeper)
     c.requires.kept c.moves.invariant.kept c.moves.invariant.so_far
     c.move_next.new.desk (g.K.Keeper.rows c.move_next.new.keeper)
