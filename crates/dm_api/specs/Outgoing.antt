@@ -18,6 +18,11 @@ reply_in (outgoing.Reply reply) = Some reply
 reply_in outgoing.Memory = Some (trouble_of troubles.Memory)
 reply_in outgoing.Nothing = None
 
+-- the reply of an answer
+abbrev pub reply_of_answer : Result ApiReply NoMemory → Option ApiReply
+reply_of_answer (Ok reply) = Some reply
+reply_of_answer (Err wanting) = Some (trouble_of troubles.Memory)
+
 -- the reply to a request that isn't one, or to want of memory
 abbrev pub Refused : Trouble → Option ApiReply → Type 0
 Refused trouble reply = (reply ≡ Some (trouble_of trouble)) ⊎ (reply ≡ Some (trouble_of troubles.Memory))
@@ -27,12 +32,16 @@ abbrev pub AnsweredBy : (Result ApiReply NoMemory → Type 0) → Option ApiRepl
 AnsweredBy answers None = ⊥
 AnsweredBy answers (Some reply) = answers (Ok reply) ⊎ ((wanting : NoMemory) × answers (Err wanting) × (reply ≡ trouble_of troubles.Memory))
 
+-- what goes out where no request was read
+abbrev pub RefusedBy : ApiFault → Option ApiReply → Type 0
+RefusedBy (faults.Rule rules.Head) reply = Refused troubles.Head reply
+RefusedBy (faults.Rule rules.Length) reply = Refused troubles.Length reply
+RefusedBy faults.TooLarge reply = Refused troubles.Size reply
+RefusedBy faults.Cut reply = reply ≡ None
+RefusedBy faults.Source reply = reply ≡ None
+RefusedBy faults.NoMemory reply = reply ≡ Some (trouble_of troubles.Memory)
+
 -- What goes out where this was read, of a service that answers so. Where no request was read, the service is as it was.
 abbrev pub Outgoes : {V : Type 0} → (V → ApiRequest → ℕ → Result ApiReply NoMemory → V → Type 0) → V → V → Result ApiRequest ApiFault → ℕ → Option ApiReply → Type 0
 Outgoes answers old new (Ok request) now reply = AnsweredBy (λ result. answers old request now result new) reply
-Outgoes answers old new (Err (faults.Rule rules.Head)) now reply = Refused troubles.Head reply × (new ≡ old)
-Outgoes answers old new (Err (faults.Rule rules.Length)) now reply = Refused troubles.Length reply × (new ≡ old)
-Outgoes answers old new (Err faults.TooLarge) now reply = Refused troubles.Size reply × (new ≡ old)
-Outgoes answers old new (Err faults.Cut) now reply = (reply ≡ None) × (new ≡ old)
-Outgoes answers old new (Err faults.Source) now reply = (reply ≡ None) × (new ≡ old)
-Outgoes answers old new (Err faults.NoMemory) now reply = (reply ≡ Some (trouble_of troubles.Memory)) × (new ≡ old)
+Outgoes answers old new (Err fault) now reply = RefusedBy fault reply × (new ≡ old)

@@ -1,10 +1,7 @@
 //! What goes out, by what was read.
-ghost use Rattle.std.specs.Prelude.{◌≡◌, IfOk};
-ghost use Rattle.dm_api.specs.Outgoing.{Refused, Outgoes, reply_in};
-ghost use Rattle.dm_response.specs.Reply.{trouble_of};
+ghost use Rattle.std.specs.Prelude.{◌≡◌};
+ghost use Rattle.dm_api.specs.Outgoing.{Refused, RefusedBy, reply_in, reply_of_answer};
 
-use crate::Service;
-use dm_call::ApiRequest;
 use dm_hear::{ApiFault, Rule};
 use dm_response::{ApiReply, Trouble, trouble_reply};
 use dm_types::NoMemory;
@@ -12,7 +9,7 @@ use std::alloc::Global;
 
 /// What goes out to a connection.
 #[derive(Debug, Drop)]
-pub(crate) enum Outgoing {
+pub enum Outgoing {
     Reply(ApiReply),
     /// The reply for want of memory, which takes none.
     Memory,
@@ -20,26 +17,27 @@ pub(crate) enum Outgoing {
     Nothing,
 }
 
-/// What goes out, where this was read.
-pub(crate) fn answer_to<V: Service>(
-    alloc: Global,
-    service: &mut V,
-    heard: Result<ApiRequest, ApiFault>,
-    now: u64,
-) -> Outgoing
-    ensures { Outgoes V.answers service.old service.new heard now (reply_in result) }
+/// What goes out, where a request was answered so.
+pub fn outgoing_of(answer: Result<ApiReply, NoMemory>) -> Outgoing
+    ensures { reply_in result ≡ reply_of_answer answer }
 {
-    match heard {
-        Ok(request) => match service.answer(alloc, &request, now) {
-            Ok(reply) => Outgoing::Reply(reply),
-            Err(NoMemory) => Outgoing::Memory,
-        },
-        Err(ApiFault::Rule(Rule::Head)) => refuse(alloc, Trouble::Head),
-        Err(ApiFault::Rule(Rule::Length)) => refuse(alloc, Trouble::Length),
-        Err(ApiFault::TooLarge) => refuse(alloc, Trouble::Size),
-        Err(ApiFault::NoMemory) => Outgoing::Memory,
-        Err(ApiFault::Cut) => Outgoing::Nothing,
-        Err(ApiFault::Source) => Outgoing::Nothing,
+    match answer {
+        Ok(reply) => Outgoing::Reply(reply),
+        Err(NoMemory) => Outgoing::Memory,
+    }
+}
+
+/// What goes out, where no request was read.
+pub fn refusal(alloc: Global, fault: ApiFault) -> Outgoing
+    ensures { RefusedBy fault (reply_in result) }
+{
+    match fault {
+        ApiFault::Rule(Rule::Head) => refuse(alloc, Trouble::Head),
+        ApiFault::Rule(Rule::Length) => refuse(alloc, Trouble::Length),
+        ApiFault::TooLarge => refuse(alloc, Trouble::Size),
+        ApiFault::NoMemory => Outgoing::Memory,
+        ApiFault::Cut => Outgoing::Nothing,
+        ApiFault::Source => Outgoing::Nothing,
     }
 }
 

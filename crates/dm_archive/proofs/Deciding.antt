@@ -1,5 +1,5 @@
 -- What the calls answer is what the commands do.
-use Rattle.std.proofs.Common.{◌≡◌, ℕ, Bool, List, [], ◌∷◌, Option, Some, None, refl, ◌∙◌, ap, subst}
+use Rattle.std.proofs.Common.{◌≡◌, ℕ, Bool, List, [], ◌∷◌, Option, None, refl, ◌∙◌, ap, subst}
 use Rattle.std.specs.Prelude.{Ok, if◌then◌else◌, map}
 use Rattle.dm_types.specs.declared.item.Item.{Item}
 use Rattle.dm_types.specs.declared.item.ItemId.{ItemId}
@@ -7,9 +7,9 @@ use Rattle.dm_item.specs.Listing.{item_in}
 use Rattle.dm_store.specs.View.{View}
 use Rattle.dm_report.specs.declared.verdict.Verdict.TheVariants as verdicts
 use Rattle.dm_hist.specs.declared.row.Row.{Row}
-use Rattle.dm_hist.specs.Rows.{with_row, without_row}
+use Rattle.dm_hist.specs.Rows.{with_row}
 use Rattle.dm_hist.specs.Shown.{row_of_item}
-use Rattle.dm_archive.specs.Doing.{Given, archives_all, changed_rows, drops_row, moved, nothing, removes, removes_of, says, with_rows}
+use Rattle.dm_archive.specs.Doing.{archives_all, changed_rows, drops_row, moved, nothing, removes, removes_of, says, with_rows}
 use Rattle.dm_archive.specs.Moving.{ArchiveAnswers, overs, put_all}
 use Rattle.dm_archive.specs.Removing.{RemoveAnswers, RemovesOf, RemovesRow}
 

@@ -1,5 +1,5 @@
 pub mod Deciding
-mod Leaves
-mod Moves
+pub mod Leaves
+pub mod Moves
 mod Nexts
 mod Rows

@@ -363,3 +363,10 @@ module _ {D O : Type 0} (tells : Type 0) (told : Type 0) (clock : D → Clock) (
         leave_all start.broken refl,
         λ sees. answers.2 sees ∙ so_far.rows_are sees ∙ ap (λ (items : List Item). put_all items rows) gone_all,
       )
+
+      pub done_stops : tells → told → AreRows rows → start.broken ≡ false → (good : Bool) (before : History) → HoldsOf good (says start.origin) clock start before
+          → EachStop (ShowsEachOnce good (says start.origin) start.items.items rows) (clock start.disk) rows (clock next.disk) rows2
+      done_stops sees knows are whole good before holds =
+          subst (λ (v : View D O). EachStop (ShowsEachOnce good (says start.origin) start.items.items rows) (clock start.disk) rows (clock v.disk) rows2) (sym answers.1)
+          (subst (λ (r : List Row). EachStop (ShowsEachOnce good (says start.origin) start.items.items rows) (clock start.disk) rows (clock present.disk) r) (sym (answers.2 knows))
+          (so_far.stops sees knows are whole good before holds))

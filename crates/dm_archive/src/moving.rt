@@ -28,10 +28,9 @@ pub fn archive_all<D: Disk, O: Origin, K: Keeper>(
     desk: &mut Desk<D, O>,
     keeper: &mut K,
 ) -> Result<u32, ArchiveFault>
-    requires kept { IsDesk D.tells D.history desk.old }
     ensures kept { IsDesk D.tells D.history desk.new }
     ensures answers { ArchiveAnswers K.tells desk.old desk.new (K.rows keeper.old) (K.rows keeper.new) result }
-    ensures stops { D.tells → K.tells → AreRows (K.rows keeper.old) → desk.old.broken ≡ false
+    ensures stops { D.tells → K.tells → desk.old.broken ≡ false
         → (good : Bool) (before : History) → HoldsOf good (said_of (O.says desk.old.origin)) D.history desk.old before
         → EachStop (ShowsEachOnce good (said_of (O.says desk.old.origin)) desk.old.items.items (K.rows keeper.old))
         (D.history desk.old.disk) (K.rows keeper.old) (D.history desk.new.disk) (K.rows keeper.new) }
@@ -41,6 +40,7 @@ pub fn archive_all<D: Disk, O: Origin, K: Keeper>(
     ensures history { HasCause history_kind (K.faults keeper.old) (K.faults keeper.new) result }
     ensures far { StaysNear (D.far desk.old.disk) (D.far desk.new.disk) desk.old desk.new }
 {
+    keeper.rows_rise();
     let before = desk.items().count();
     'moves: loop {
         match move_next(alloc, desk, keeper) {

@@ -240,7 +240,7 @@ module _ {D O : Type 0} (tells : Type 0) (clock : D → Clock) (says : O → Say
     }
 
     none_met : WithNames tells clock old (AreAllTaken told.wish) → DeskMet tells clock says far counts scene pass mine causes.NamesTaken
-    none_met all = record { desk = old; live = live; is = (told.wish, refl, all) }
+    none_met all = record { desk = old; live = live; is = (told.wish, refl, refl, all) }
 
     pub none_named : RecordedOne old new (Names tells clock old pass told named.AllTaken) → DescribeLeaves tells clock says far counts scene pass old new led lost count told address (Err (stops.Recorded reasons.FileFailed))
     none_named one = (

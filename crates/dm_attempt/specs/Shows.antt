@@ -26,10 +26,10 @@ use Rattle.dm_attempt.specs.Trace.{Broken, Close, Done, Trace, with_saves}
 abbrev pub total_by : {D O : Type 0} → Scene D O → Trace → ℕ
 total_by scene trace = get (told_by scene trace.told).total (cover_end (cover_by scene trace))
 
--- What the desk shows of a cause by which it ends an attempt itself: all forms of the told wish are taken; or all came, and the part has another sum than the
+-- What the desk shows of a cause by which it ends an attempt itself: all forms of the told wish are taken, and so the item gets no name; or all came, and the part has another sum than the
 -- stated one, or ends early, as it reads.
 abbrev pub ShowsEnd : {D O : Type 0} → Type 0 → (D → Clock) → Scene D O → View D O → Trace → Cause → Type 0
-ShowsEnd tells clock scene desk trace causes.NamesTaken = (wish : List ℕ) × (trace.wish ≡ Some wish) × WithNames tells clock desk (AreAllTaken wish)
+ShowsEnd tells clock scene desk trace causes.NamesTaken = (wish : List ℕ) × (trace.wish ≡ Some wish) × (trace.told ≡ None) × WithNames tells clock desk (AreAllTaken wish)
 ShowsEnd tells clock scene desk trace (causes.DigestDiffers have wanted) =
     IsFull (total_by scene trace) (cover_by scene trace) × ((told_by scene trace.told).digest ≡ Some wanted) × (have ≢ wanted)
     × (tells → HasSum (part_bytes clock desk.disk (told_by scene trace.told)) (total_by scene trace) have)

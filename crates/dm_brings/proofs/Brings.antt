@@ -1,5 +1,5 @@
 -- What `fetch` did is what a run's clause says of its driver.
-use Rattle.std.proofs.Common.{◌≡◌, ℕ, Bool, true, false, List, [], ◌++◌, Option, Some, None, refl, sym, ◌∙◌, ap, subst, arith}
+use Rattle.std.proofs.Common.{◌≡◌, ℕ, Bool, false, List, [], ◌++◌, refl, sym, ◌∙◌, subst, arith}
 use Rattle.std.specs.List.{AllByRecursion}
 use Rattle.std.specs.Prelude.{IfSome, is_some}
 use Rattle.dm_types.specs.Faults.{Rose}
@@ -21,7 +21,7 @@ use Rattle.dm_fetch.specs.Fetches.{Fetched}
 use Rattle.dm_does.specs.Answering.{IsOfAttempt}
 use Rattle.dm_does.specs.World.{IsLater, World}
 use Rattle.dm_brings.specs.Bringing.{Brought, world_of}
-use Rattle.dm_brings.proofs.Steps.{BrokeBy, IsCalmAll, Stepped, fetch_step}
+use Rattle.dm_brings.proofs.Steps.{BrokeBy, Stepped, fetch_step}
 
 -- the kind that an answer tells is one that was counted
 counted_by : (before after : DiskKind → ℕ) (end : Ended) (failed : History) (broken : Bool) → BrokeBy before after end failed broken → IfSome (journal_kind_of end) (λ kind. Rose (before kind) (after kind))
@@ -37,10 +37,10 @@ at_once : (tells : Type 0) (world : World) → IsLater tells world world
 at_once tells world = record { disk_later = λ kind. omega arith; net_later = λ kind. omega arith; moments_stay = λ told. at_start world.disk (λ (disk : DiskState). Unit {0}) tt }
 
 pub brought_of : {D O : Type 0} (tells : Type 0) (clock : D → Clock) (says : O → Says) (far : D → ℕ) (counts : D → DiskKind → ℕ) (net : Type 0) (id : ItemId) (slices at : ℕ) (old new : View D O) (was now : List Closed) (before after : NetFault → ℕ) (end : Ended)
-    → old.broken ≡ false → old.failed ≡ [] → (did : Fetched tells clock says far counts net old new was now before after id slices at end) → IsCalmAll tells clock says far counts net id slices at did.all
+    → old.broken ≡ false → old.failed ≡ [] → Fetched tells clock says far counts net old new was now before after id slices at end
     → Brought tells clock says far counts net old new was now before after id slices at end
-brought_of tells clock says far counts net id slices at old new was now before after end whole none did calm =
-    let step : Stepped tells clock says far counts net id slices at old new was now before after end = fetch_step tells clock says far counts net id slices at new now after end old was before User did.more whole none did.all calm in
+brought_of tells clock says far counts net id slices at old new was now before after end whole none did =
+    let step : Stepped tells clock says far counts net id slices at old new was now before after end = fetch_step tells clock says far counts net id slices at new now after end old was before User did.more whole none did.all in
     record {
       fetched = step.recorded;
       list = step.went.list_is;

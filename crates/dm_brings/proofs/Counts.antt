@@ -1,18 +1,14 @@
 -- The entries of an attempt are those of its item, and its interruption was counted where it is one by a kind of fault.
-use Rattle.std.proofs.Common.{◌≡◌, ◌⊎◌, inl, inr, ℕ, Bool, true, false, cond, List, [], ◌∷◌, ◌++◌, map, Option, Some, None, refl, sym, ap, subst, ◌+◌}
+use Rattle.std.proofs.Common.{◌≡◌, inl, inr, ℕ, Bool, true, false, cond, List, [], ◌∷◌, ◌++◌, map, Option, Some, None, refl, sym, subst, ◌+◌}
 use Rattle.std.specs.List.{AllByRecursion}
 use Rattle.dm_types.specs.Faults.{Rose}
 use Rattle.dm_types.specs.declared.entry.Entry.{Entry}
 use Rattle.dm_types.specs.declared.entry.Entry.TheVariants as entries
-use Rattle.dm_types.specs.declared.item.Item.{Item}
 use Rattle.dm_types.specs.declared.item.ItemId.{ItemId}
-use Rattle.dm_types.specs.declared.kinds.By.{By}
 use Rattle.dm_types.specs.declared.kinds.DiskKind.{DiskKind}
 use Rattle.dm_types.specs.declared.kinds.DiskKind.TheVariants as kinds
 use Rattle.dm_types.specs.declared.slices.Slice.{Slice}
 use Rattle.dm_disk_model.specs.Disk.{History as Clock}
-use Rattle.dm_edge.specs.Wire.{Closed}
-use Rattle.dm_edge.specs.declared.fault.NetFault.{NetFault}
 use Rattle.dm_item.specs.Lawful.{History}
 use Rattle.dm_kept.specs.Files.{Says}
 use Rattle.dm_policy.specs.Cause.{reason_of_cause, reason_of_file}
@@ -23,7 +19,7 @@ use Rattle.dm_answers.specs.Begin.{because_of, beginning, begins_anew, epoch_beh
 use Rattle.dm_attempt.specs.Ending.{IsDeskCause}
 use Rattle.dm_attempt.specs.Scene.{Scene}
 use Rattle.dm_attempt.specs.Live.{all_entries}
-use Rattle.dm_attempt.specs.Shows.{BeginMet, DeskMet, FileMet, ShowsClose, ShowsEnd}
+use Rattle.dm_attempt.specs.Shows.{BeginMet, FileMet, ShowsClose, ShowsEnd}
 use Rattle.dm_attempt.specs.Trace.{Broken, Close, Done, Tale, Trace, close_entries, entries_behind, told_entries}
 use Rattle.dm_store.specs.declared.pass.Pass.{Pass}
 use Rattle.dm_does.specs.Answering.{IsCounted, IsOfAttempt}

@@ -1,3 +1,5 @@
 pub mod Counts
+pub mod Shown
 pub mod Steps
 pub mod Brings
+pub mod Completed

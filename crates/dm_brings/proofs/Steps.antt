@@ -1,10 +1,9 @@
 -- What an attempt does at a desk, and what several do.
-use Rattle.std.proofs.Common.{◌≡◌, ◌⊎◌, inl, inr, ℕ, suc, ◌≤◌, Bool, true, false, List, [], ◌∷◌, ◌++◌, Option, Some, None, refl, sym, ◌∙◌, ap, subst, append_assoc, arith}
+use Rattle.std.proofs.Common.{◌≡◌, ◌⊎◌, inl, inr, ℕ, Bool, true, false, List, [], ◌++◌, Some, refl, sym, ◌∙◌, ap, subst, append_assoc, arith}
 use Rattle.std.proofs.lemmas.Bool.{false≢true}
 use Rattle.std.proofs.lemmas.List.{append-nil}
 use Rattle.std.specs.List.{AllByRecursion}
 use Rattle.dm_types.specs.Faults.{NoneFell, Rose}
-use Rattle.dm_types.specs.declared.entry.Entry.{Entry}
 use Rattle.dm_types.specs.declared.item.Item.{Item}
 use Rattle.dm_types.specs.declared.item.ItemId.{ItemId}
 use Rattle.dm_types.specs.declared.kinds.By.{By}
@@ -36,8 +35,7 @@ use Rattle.dm_attempt.specs.Trace.{Broken, Close, Done, Trace, with_saves}
 use Rattle.dm_attempt.specs.declared.ended.Ended.{Ended}
 use Rattle.dm_attempt.specs.declared.ended.Ended.TheVariants as ended
 use Rattle.dm_answers.specs.Begin.{pass_of}
-use Rattle.dm_answers.specs.Running.{ItemWith}
-use Rattle.dm_fetch.specs.Attempts.{Attempts, EndedBy, IsMetBy, MetAtNet, TriedBy, at_desk, at_net, refused, tried, wanting}
+use Rattle.dm_fetch.specs.Attempts.{Attempts, EndedBy, IsMetBy, MetAtNet, at_desk, at_net, refused, tried, wanting}
 use Rattle.dm_fetch.specs.Fetches.{Fetches, again, once}
 use Rattle.dm_fetch.specs.Starts.{BeginRefuses, scene_of}
 use Rattle.dm_does.specs.Answering.{IsCounted, IsOfAttempt}
@@ -45,6 +43,7 @@ use Rattle.dm_does.specs.World.{World}
 use Rattle.dm_does.proofs.Counted.{attempt_wider}
 use Rattle.dm_does.proofs.Sweeping.{rose_wider}
 use Rattle.dm_brings.specs.Bringing.{world_of}
+use Rattle.dm_brings.proofs.Shown.{shown_counted}
 use Rattle.dm_brings.proofs.Counts.{ClosesCounted, all_append, all_front, all_wider, close_counted, desk_counted, entries_of, file_counted}
 
 -- nothing was recorded where nothing changed
@@ -177,18 +176,13 @@ module _ {D O : Type 0} (tells : Type 0) (clock : D → Clock) (says : O → Say
           ends.1.is ends.1.goes ends.0
       by_end trace (ended.Fault fault) ends = absurd ends
 
-  -- What is asked of the net besides: no count of it fell over an attempt, and a cause that it shows has a reason that was counted.
-  pub record IsCalm (old new : View D O) (was closed : List Closed) (before after : NetFault → ℕ) (by : By) : Type 0 where
-    pub later : NoneFell before after
-    pub shown : (item : Item) (trace : Trace) (cause : Cause) → MetAtNet net before after (scene_of old item by at was before) trace cause
-        → IsCounted (world_of clock counts old was before) (world_of clock counts new closed after) (reason_of_cause cause)
-
-  pub attempt_step : (old new : View D O) (was closed : List Closed) (before after : NetFault → ℕ) (by : By) (end : Ended) → old.broken ≡ false → old.failed ≡ [] → IsCalm old new was closed before after by
+  pub attempt_step : (old new : View D O) (was closed : List Closed) (before after : NetFault → ℕ) (by : By) (end : Ended) → old.broken ≡ false → old.failed ≡ [] → NoneFell before after
       → Attempts tells clock says far counts net old new was closed before after id by slices at end → Stepped old new was closed before after end
-  attempt_step old new was closed before after by end whole none calm (wanting end_is same closed_is) = at_rest old new was closed before after end faults.NoMemory end_is same whole none calm.later (refl, refl)
-  attempt_step old new was closed before after by end whole none calm (refused fault end_is refuses closed_is) = at_refusal old new was closed before after by end fault end_is refuses whole none calm.later
-  attempt_step old new was closed before after by end whole none calm (tried with_item) =
-      by_end old new was closed before after by with_item.item with_item.there calm.later (calm.shown with_item.item) with_item.is.trace end with_item.is.ends
+  attempt_step old new was closed before after by end whole none later (wanting end_is same closed_is) = at_rest old new was closed before after end faults.NoMemory end_is same whole none later (refl, refl)
+  attempt_step old new was closed before after by end whole none later (refused fault end_is refuses closed_is) = at_refusal old new was closed before after by end fault end_is refuses whole none later
+  attempt_step old new was closed before after by end whole none later (tried with_item) =
+      by_end old new was closed before after by with_item.item with_item.there later
+      (shown_counted (world_of clock counts old was before) (world_of clock counts new closed after) net (scene_of old with_item.item by at was before)) with_item.is.trace end with_item.is.ends
 
   module _ (old mid new : View D O) (was between closed : List Closed) (before amid after : NetFault → ℕ) where
     abbrev start : World
@@ -224,17 +218,11 @@ module _ {D O : Type 0} (tells : Type 0) (clock : D → Clock) (says : O → Say
       by = rose_before end two.failed two.broken one.disk_later two.by;
     }
 
-  -- so of each attempt of a fetch
-  abbrev pub IsCalmAll : {new : View D O} {now : List Closed} {after : NetFault → ℕ} {end : Ended} {old : View D O} {was : List Closed} {before : NetFault → ℕ} {by : By} {more : ℕ}
-      → Fetches tells clock says far counts net id slices at new now after end old was before by more → Type 0
-  IsCalmAll {new = new} {now = now} {after = after} (once old was before by did no_more) = IsCalm old new was now before after by
-  IsCalmAll (again old was before by mid between amid reason more did goes rest) = IsCalm old mid was between before amid by × IsCalmAll rest
-
   -- all attempts of a fetch
   pub fetch_step : (new : View D O) (now : List Closed) (after : NetFault → ℕ) (end : Ended) (old : View D O) (was : List Closed) (before : NetFault → ℕ) (by : By) (more : ℕ) → old.broken ≡ false → old.failed ≡ []
-      → (all : Fetches tells clock says far counts net id slices at new now after end old was before by more) → IsCalmAll all → Stepped old new was now before after end
-  fetch_step new now after end old was before by more whole none (once _ _ _ _ did no_more) calm = attempt_step old new was now before after by end whole none calm did
-  fetch_step new now after end old was before by _ whole none (again _ _ _ _ mid between amid reason more did goes rest) calm =
-      let one = attempt_step old mid was between before amid by (ended.Stopped reason) whole none calm.0 did in
+      → Fetches tells clock says far counts net id slices at new now after end old was before by more → Stepped old new was now before after end
+  fetch_step new now after end old was before by more whole none (once _ _ _ _ did later no_more) = attempt_step old new was now before after by end whole none later did
+  fetch_step new now after end old was before by _ whole none (again _ _ _ _ mid between amid reason more did later goes rest) =
+      let one = attempt_step old mid was between before amid by (ended.Stopped reason) whole none later did in
       then_step old mid new was between now before amid after reason end one
-      (fetch_step new now after end mid between amid _ more (one.went.broken_is ∙ one.by.1) (one.went.failed_is ∙ one.by.0) rest calm.1)
+      (fetch_step new now after end mid between amid _ more (one.went.broken_is ∙ one.by.1) (one.went.failed_is ∙ one.by.0) rest)

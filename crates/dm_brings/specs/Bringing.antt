@@ -1,8 +1,6 @@
 -- What `fetch` does, as what a run's clause says of its driver.
-use Rattle.std.specs.Prelude.{◌≡◌, ◌≤◌, ℕ, List, ◌++◌, Option, Some, None, is_some}
-use Rattle.dm_types.specs.Faults.{NoneFell}
+use Rattle.std.specs.Prelude.{◌≡◌, ℕ, List, ◌++◌, Option, Some, None, is_some}
 use Rattle.dm_types.specs.declared.item.ItemId.{ItemId}
-use Rattle.dm_types.specs.declared.kinds.By.{By}
 use Rattle.dm_types.specs.declared.kinds.DiskKind.{DiskKind}
 use Rattle.dm_edge.specs.Wire.{Closed}
 use Rattle.dm_edge.specs.declared.fault.NetFault.{NetFault}

@@ -4,3 +4,4 @@ pub mod Query
 pub mod Content
 pub mod Asked
 pub mod Held
+pub mod Fitting

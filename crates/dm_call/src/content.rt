@@ -1,9 +1,10 @@
 //! The content that adds an item.
-ghost use Rattle.std.specs.Prelude.{◌≡◌, option_map, IfOk, IfErr};
+ghost use Rattle.std.specs.Prelude.{◌≡◌, ◌≤◌, length, option_map, IfOk, IfErr};
 ghost use Rattle.std.specs.Option.{option_copied};
 ghost use Rattle.serde_json.specs.Read.{read};
 ghost use Rattle.serde_json.specs.View.{view, members_view};
 ghost use Rattle.dm_call.specs.Asked.{Refuses};
+ghost use Rattle.dm_call.specs.Fitting.{FitsNamed};
 ghost use Rattle.dm_call.specs.Content.{are_texts as all_texts, digest_of, is_key as is_known_key, name_of, named_by, named_in as named_of_texts, named_of, text_at as text_in, texts_in, with_name};
 ghost use Rattle.dm_call.specs.Held.{texts_told};
 
@@ -21,6 +22,7 @@ const MOST_OF_NAME: usize = 255;
 /// What the content adds.
 pub fn read_named(alloc: Global, body: &[u8]) -> Result<Named, CallFault>
     ensures ok { IfOk result (λ named. named_of body.now ≡ Ok named) }
+    ensures fits { IfOk result FitsNamed }
     ensures err { IfErr result (Refuses (named_of body.now)) }
 {
     let text = match str::from_utf8(body) {
@@ -56,6 +58,7 @@ struct Told<'a> {
 /// What a value adds.
 fn named_in(alloc: Global, value: &Value) -> Result<Named, CallFault>
     ensures ok { IfOk result (λ named. named_of_texts (texts_in (view value.now)) ≡ Ok named) }
+    ensures fits { IfOk result FitsNamed }
     ensures err { IfErr result (Refuses (named_of_texts (texts_in (view value.now)))) }
 {
     match find_texts(value) {
@@ -107,6 +110,7 @@ fn text_at<'a>(value: &'a Value, key: &str) -> Option<&'a str>
 /// What the texts add, where each keeps its rule.
 fn make_named(alloc: Global, told: &Told<'_>) -> Result<Named, CallFault>
     ensures ok { IfOk result (λ named. named_by (texts_told told.now) ≡ Ok named) }
+    ensures fits { IfOk result FitsNamed }
     ensures err { IfErr result (Refuses (named_by (texts_told told.now))) }
 {
     if !is_word(told.word.as_bytes()) {
@@ -121,7 +125,10 @@ fn make_named(alloc: Global, told: &Told<'_>) -> Result<Named, CallFault>
 
 /// The same with the address that was read.
 fn named_at(alloc: Global, told: &Told<'_>, address: Address) -> Result<Named, CallFault>
+    requires word { length (texts_told told.now).word ≤ 64 }
+    requires address { length address.text ≤ 4096 }
     ensures ok { IfOk result (λ named. with_name (texts_told told.now) address (name_of (option_copied told.now.name)) ≡ Ok named) }
+    ensures fits { IfOk result FitsNamed }
     ensures err { IfErr result (Refuses (with_name (texts_told told.now) address (name_of (option_copied told.now.name)))) }
 {
     let name = told.name.unwrap_or("");

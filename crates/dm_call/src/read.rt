@@ -1,6 +1,7 @@
 //! What a request asks.
 ghost use Rattle.std.specs.Prelude.{◌≡◌, Ok, Some, IfOk, IfErr};
 ghost use Rattle.dm_call.specs.Asked.{Refuses, asked, asked_of};
+ghost use Rattle.dm_call.specs.Fitting.{FitsCall};
 ghost use Rattle.dm_call.specs.Query.{window_of};
 ghost use Rattle.dm_call.specs.Held.{RefusesQuery};
 
@@ -14,6 +15,7 @@ use std::alloc::Global;
 /// What the request asks.
 pub fn read_call(alloc: Global, request: &ApiRequest) -> Result<Call, CallFault>
     ensures ok { IfOk result (λ call. asked request.now ≡ Ok call) }
+    ensures fits { IfOk result FitsCall }
     ensures err { IfErr result (Refuses (asked request.now)) }
 {
     match read_target(alloc, request.path.bytes())? {
@@ -25,6 +27,7 @@ pub fn read_call(alloc: Global, request: &ApiRequest) -> Result<Call, CallFault>
 /// What the request asks of what its path names.
 fn call_on(alloc: Global, request: &ApiRequest, target: Target) -> Result<Call, CallFault>
     ensures ok { IfOk result (λ call. asked_of request.now target ≡ Ok call) }
+    ensures fits { IfOk result FitsCall }
     ensures err { IfErr result (Refuses (asked_of request.now target)) }
 {
     match (target, request.method) {

@@ -1,14 +1,1 @@
-pub mod FileName
-pub mod Lines
-pub mod Served
-pub mod Causes
-pub mod Copying
-pub mod Ending
-pub mod Following
-pub mod Get
-pub mod Listing
-pub mod Print
-pub mod Redirects
-pub mod Run
-pub mod Steps
-pub mod Reading
+pub mod Refusing

@@ -95,6 +95,8 @@ named_fits given order same course (Some item) is numbered on of_list each =
 -- what a job does fits the list
 pub does_fit : (job : Job) (given : Given) → IsNumbered 1 given.list.items given.list.next → Fits given.list (does job given)
 does_fit jobs.List given numbered = record { entries = tt; course = tt }
+does_fit jobs.Report given numbered = record { entries = tt; course = tt }
+does_fit jobs.Export given numbered = record { entries = tt; course = tt }
 does_fit (jobs.Show id) given numbered = found_fits given.list id (item_in id.0 given.list.items) (λ item. ends Done (Whole item.id)) (λ item there. record { entries = tt; course = tt })
 does_fit (jobs.Pause id) given numbered = found_fits given.list id (item_in id.0 given.list.items) pauses (λ item there. pauses_fit given.list item (at_its_id given.list id item there))
 does_fit (jobs.Cancel id) given numbered = found_fits given.list id (item_in id.0 given.list.items) cancels (λ item there. cancels_fit given.list item (at_its_id given.list id item there))

@@ -1,13 +1,14 @@
 -- Words are one job or none, and a run refuses them exactly where they are none.
-use Rattle.std.proofs.Common.{◌≡◌, ℕ, List, refl, sym, ◌∙◌, ap}
+use Rattle.std.proofs.Common.{◌≡◌, ℕ, List, Some, refl, sym, ◌∙◌, ap}
 use Rattle.dm_item.proofs.Basics.{none_some, some_same}
 use Rattle.dm_report.specs.Said.{Said}
 use Rattle.dm_report.specs.declared.verdict.Verdict.{Verdict}
 use Rattle.dm_report.specs.declared.verdict.Verdict.TheVariants as verdicts
 use Rattle.dm_words.proofs.OneCommand.{one_asked}
+use Rattle.dm_words.specs.Asked.{Asked, Gets, Adds, Resumes, Pauses, Cancels, Removes, Shows, Lists, Reports, Exports}
 use Rattle.dm_does.specs.declared.job.Job.{Job}
 use Rattle.dm_does.specs.Answering.{Answers, Bringing}
-use Rattle.dm_does.specs.Jobs.{AskNothing, HasBadAddress, HasJob, HasSomeJob, RefusesWords, job_of}
+use Rattle.dm_does.specs.Jobs.{AskNothing, IsElsewhere, HasBadAddress, HasJob, HasSomeJob, RefusesWords, job_of}
 use Rattle.dm_does.specs.Log.{Run, Untouched, Unread, Unopened, Opened}
 use Rattle.dm_does.specs.World.{World}
 
@@ -15,9 +16,23 @@ use Rattle.dm_does.specs.World.{World}
 pub one_job : (words : List (List ℕ)) (a b : Job) → HasJob words a → HasJob words b → a ≡ b
 one_job words a b first second = some_same (sym first.is ∙ ap job_of (sym (one_asked words first.asked second.asked first.asks second.asks)) ∙ second.is)
 
+-- what another run does is no job here
+no_job_elsewhere : (asked : Asked) (job : Job) → IsElsewhere asked → job_of asked ≡ Some job → ⊥
+no_job_elsewhere (Gets wish slices) job elsewhere is = elsewhere
+no_job_elsewhere (Adds wish) job elsewhere is = elsewhere
+no_job_elsewhere (Resumes id slices) job elsewhere is = elsewhere
+no_job_elsewhere (Pauses id) job elsewhere is = elsewhere
+no_job_elsewhere (Cancels id) job elsewhere is = elsewhere
+no_job_elsewhere (Removes id) job elsewhere is = elsewhere
+no_job_elsewhere (Shows id) job elsewhere is = elsewhere
+no_job_elsewhere Lists job elsewhere is = elsewhere
+no_job_elsewhere Reports job elsewhere is = elsewhere
+no_job_elsewhere Exports job elsewhere is = elsewhere
+no_job_elsewhere asked job elsewhere is = none_some is
+
 -- words that ask nothing are none, and so are words with a bad address
 pub nothing_asked : (words : List (List ℕ)) → AskNothing words → HasSomeJob words → ⊥
-nothing_asked words none some = none some.has.asked some.has.asks
+nothing_asked words none some = no_job_elsewhere some.has.asked some.job (none some.has.asked some.has.asks) some.has.is
 
 pub bad_address : (words : List (List ℕ)) → HasBadAddress words → HasSomeJob words → ⊥
 bad_address words bad some = none_some (sym bad.none ∙ ap job_of (sym (one_asked words bad.asked some.has.asked bad.asks some.has.asks)) ∙ some.has.is)

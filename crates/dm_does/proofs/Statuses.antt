@@ -1,5 +1,5 @@
 -- The statuses, both ways: what a status tells of a run, and when it comes.
-use Rattle.std.proofs.Common.{◌≡◌, ◌≢◌, ℕ, true, false, List, ◌++◌, Option, Some, None, sym, ◌∙◌, ap}
+use Rattle.std.proofs.Common.{◌≡◌, ◌≢◌, ◌⊎◌, inl, inr, ℕ, true, false, List, ◌++◌, Option, Some, None, sym, ◌∙◌, ap, arith}
 use Rattle.std.proofs.lemmas.Bool.{false≢true}
 use Rattle.dm_types.specs.declared.item.Item.{Item}
 use Rattle.dm_types.specs.declared.item.Phase.{Phase}
@@ -12,6 +12,7 @@ use Rattle.dm_item.specs.Listing.{item_in}
 use Rattle.dm_item.proofs.Basics.{none_some}
 use Rattle.dm_report.specs.Said.{Said, only}
 use Rattle.dm_report.specs.Texts.{item_line_of}
+use Rattle.dm_report.specs.Verdict.{status_of}
 use Rattle.dm_report.specs.declared.verdict.Verdict.{Verdict}
 use Rattle.dm_report.specs.declared.verdict.Verdict.TheVariants as verdicts
 use Rattle.dm_does.specs.declared.course.Course.{Course}
@@ -20,6 +21,7 @@ use Rattle.dm_does.specs.Answering.{Bringing, Came, Follows, WentOn, all, broke,
 use Rattle.dm_does.specs.Doing.{Doing}
 use Rattle.dm_does.specs.Laws.{IsOfList}
 use Rattle.dm_does.specs.Log.{Log, kept_of, opened_of}
+use Rattle.dm_does.specs.Printing.{Outputs, Prints, SameCounts, SomeRose}
 use Rattle.dm_does.specs.Saying.{said_by, said_in, said_interrupted, said_of}
 use Rattle.dm_does.specs.World.{Failed, World}
 use Rattle.dm_does.proofs.Sweeping.{rose_wider}
@@ -96,3 +98,31 @@ said_failed brings tells at before after doing log said kind of_list (unsaid who
   where
     memory_no : verdicts.NoMemory ≡ verdicts.DiskFailed kind → ⊥
     memory_no same = cc
+
+-- The status 7 is no verdict's own.
+never_seven : (verdict : Verdict) → status_of verdict ≢ 7
+never_seven verdicts.Done is = omega (arith, is)
+never_seven (verdicts.Interrupted reason) is = omega (arith, is)
+never_seven verdicts.BadWords is = omega (arith, is)
+never_seven verdicts.BadAddress is = omega (arith, is)
+never_seven (verdicts.NoItem id) is = omega (arith, is)
+never_seven (verdicts.WrongState phase) is = omega (arith, is)
+never_seven (verdicts.Damaged place) is = omega (arith, is)
+never_seven (verdicts.DiskFailed kind) is = omega (arith, is)
+never_seven (verdicts.ItemsFull count) is = omega (arith, is)
+never_seven verdicts.NoMemory is = omega (arith, is)
+never_seven (verdicts.OtherWord id) is = omega (arith, is)
+never_seven (verdicts.BadImport number) is = omega (arith, is)
+never_seven verdicts.NotAccepted is = omega (arith, is)
+never_seven verdicts.HistoryFailed is = omega (arith, is)
+
+module _ (tells : Type 0) (before after : Outputs) (said : Said) (status : ℕ) where
+  -- So 7 tells that a write failed, which was counted.
+  pub seven_counted : Prints tells before after said status → status ≡ 7 → SomeRose before.out_faults after.out_faults ⊎ SomeRose before.errs_faults after.errs_faults
+  seven_counted (inl printed) is = absurd (never_seven said.verdict (sym printed.status_is ∙ is))
+  seven_counted (inr cut) is = cut.cause
+
+  -- And any other status tells that none was counted.
+  pub others_quiet : Prints tells before after said status → status ≢ 7 → SameCounts before.out_faults after.out_faults × SameCounts before.errs_faults after.errs_faults
+  others_quiet (inl printed) other = (printed.out_quiet, printed.errs_quiet)
+  others_quiet (inr cut) other = absurd (other cut.status_is)

@@ -109,6 +109,8 @@ at_its_id list id item there = subst (λ (n : ℕ). item_in n list.items ≡ Som
 
 pub does_wait : (job : Job) (given : Given) → IsNumbered 1 given.list.items given.list.next → NoneRuns given.list.items → WaitsBy given.list (does job given).entries (does job given).course
 does_wait jobs.List given numbered none = tt
+does_wait jobs.Report given numbered none = tt
+does_wait jobs.Export given numbered none = tt
 does_wait (jobs.Show id) given numbered none = found_waits given.list id (item_in id.0 given.list.items) (λ item. ends Done (Whole item.id)) (λ item there. tt)
 does_wait (jobs.Pause id) given numbered none = found_waits given.list id (item_in id.0 given.list.items) pauses
     (λ item there. ends_waits given.list (is_paused item.phase) (allows (entries.Paused item.id) item.phase) (entries.Paused item.id) Done (Line item.id) item)

@@ -17,7 +17,7 @@ use Rattle.dm_answers.specs.declared.order.Order.{Order}
 use Rattle.dm_does.specs.declared.course.Course.{Course}
 use Rattle.dm_does.specs.declared.course.Course.TheVariants.{Ends, Brings}
 use Rattle.dm_does.specs.declared.course.Show.{Show}
-use Rattle.dm_does.specs.declared.course.Show.TheVariants.{Nothing, Line, Lines, Whole}
+use Rattle.dm_does.specs.declared.course.Show.TheVariants.{Nothing, Line, Lines, Whole, Counts, Records}
 use Rattle.dm_does.specs.declared.job.Job.{Job}
 use Rattle.dm_does.specs.declared.job.Job.TheVariants as jobs
 
@@ -108,6 +108,8 @@ by_word given order same course = named_by given order same course (with_word or
 -- What each job does. Looks alone come first, then what changes one item, then what takes an order.
 abbrev pub does : Job → Given → Doing
 does jobs.List given = ends Done Lines
+does jobs.Report given = ends Done Counts
+does jobs.Export given = ends Done Records
 does (jobs.Show id) given = on_item given id (λ item. ends Done (Whole item.id))
 does (jobs.Pause id) given = on_item given id pauses
 does (jobs.Cancel id) given = on_item given id cancels

@@ -5,7 +5,7 @@ use Rattle.dm_types.specs.declared.address.Address.{Address}
 use Rattle.dm_types.specs.declared.item.ItemId.{ItemId}
 use Rattle.dm_request.specs.Reading.{address_read}
 use Rattle.dm_request.specs.declared.address.AddressFault.{AddressFault}
-use Rattle.dm_words.specs.Asked.{Asked, Asks, Gets, Adds, Resumes, Pauses, Cancels, Removes, Shows, Lists, WishOf}
+use Rattle.dm_words.specs.Asked.{Asked, Asks, Gets, Adds, Resumes, Pauses, Cancels, Removes, Shows, Lists, Reports, Exports, Archives, Histories, Imports, Rehearses, Serves, WishOf}
 use Rattle.dm_report.specs.declared.verdict.Verdict.{Verdict}
 use Rattle.dm_report.specs.declared.verdict.Verdict.TheVariants.{BadWords, BadAddress, NoMemory}
 use Rattle.dm_answers.specs.declared.order.Order.{Order}
@@ -33,7 +33,7 @@ order_in wish = option_map (order_of wish) (address_in (address_read None wish.a
 abbrev id_of : ℕ → ItemId
 id_of id = record { 0 = id }
 
--- the job that is asked: none where the address is refused
+-- the job that is asked: none where the address is refused, or another run does it
 abbrev pub job_of : Asked → Option Job
 job_of (Gets wish slices) = option_map (λ order. jobs.Get order slices) (order_in wish)
 job_of (Adds wish) = option_map jobs.Add (order_in wish)
@@ -43,6 +43,13 @@ job_of (Cancels id) = Some (jobs.Cancel (id_of id))
 job_of (Removes id) = Some (jobs.Remove (id_of id))
 job_of (Shows id) = Some (jobs.Show (id_of id))
 job_of Lists = Some jobs.List
+job_of Reports = Some jobs.Report
+job_of Exports = Some jobs.Export
+job_of Archives = None
+job_of (Histories after limit) = None
+job_of (Imports name) = None
+job_of (Rehearses number) = None
+job_of (Serves port) = None
 
 -- the words ask this job
 pub record HasJob (words : List (List ℕ)) (job : Job) : Type 0 where
@@ -54,15 +61,27 @@ pub record HasSomeJob (words : List (List ℕ)) : Type 0 where
   pub job : Job
   pub has : HasJob words job
 
--- the words ask nothing
-abbrev pub AskNothing : List (List ℕ) → Type 0
-AskNothing words = (asked : Asked) → Asks words asked → ⊥
+-- another run does what is asked: its clause isn't this one
+abbrev pub IsElsewhere : Asked → Type 0
+IsElsewhere (Gets wish slices) = ⊥
+IsElsewhere (Adds wish) = ⊥
+IsElsewhere (Resumes id slices) = ⊥
+IsElsewhere (Pauses id) = ⊥
+IsElsewhere (Cancels id) = ⊥
+IsElsewhere (Removes id) = ⊥
+IsElsewhere (Shows id) = ⊥
+IsElsewhere Lists = ⊥
+IsElsewhere Reports = ⊥
+IsElsewhere Exports = ⊥
+IsElsewhere Archives = Unit {0}
+IsElsewhere (Histories after limit) = Unit {0}
+IsElsewhere (Imports name) = Unit {0}
+IsElsewhere (Rehearses number) = Unit {0}
+IsElsewhere (Serves port) = Unit {0}
 
--- the words ask for an address that is none
-pub record HasBadAddress (words : List (List ℕ)) : Type 0 where
-  pub asked : Asked
-  pub asks : Asks words asked
-  pub none : job_of asked ≡ None
+-- the words ask nothing that is done here
+abbrev pub AskNothing : List (List ℕ) → Type 0
+AskNothing words = (asked : Asked) → Asks words asked → IsElsewhere asked
 
 -- an address is told, which wants memory to be read
 abbrev pub tells_address : Asked → Type 0
@@ -74,6 +93,20 @@ tells_address (Cancels id) = ⊥
 tells_address (Removes id) = ⊥
 tells_address (Shows id) = ⊥
 tells_address Lists = ⊥
+tells_address Reports = ⊥
+tells_address Exports = ⊥
+tells_address Archives = ⊥
+tells_address (Histories after limit) = ⊥
+tells_address (Imports name) = ⊥
+tells_address (Rehearses number) = ⊥
+tells_address (Serves port) = ⊥
+
+-- the words ask for an address that is none
+pub record HasBadAddress (words : List (List ℕ)) : Type 0 where
+  pub asked : Asked
+  pub asks : Asks words asked
+  pub none : job_of asked ≡ None
+  pub told : tells_address asked
 
 pub record HasAddress (words : List (List ℕ)) : Type 0 where
   pub asked : Asked

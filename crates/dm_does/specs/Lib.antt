@@ -12,5 +12,4 @@ pub mod Leaving
 pub mod Explaining
 pub mod Headline
 pub mod Session
-pub mod Contents
 pub mod Completing

@@ -12,9 +12,16 @@ pub record Outputs : Type 0 where
   pub out_faults : EdgeFault → ℕ
   pub errs_faults : EdgeFault → ℕ
 
--- both texts were written, where that is told, and the status is the verdict's
+-- no count of failed writes is another than before
+abbrev pub SameCounts : (EdgeFault → ℕ) → (EdgeFault → ℕ) → Type 0
+SameCounts before after = (kind : EdgeFault) → after kind ≡ before kind
+
+-- Both texts were written, where that is told, and the status is the verdict's, which is never 7. Of neither output did a count of failed writes change, also where
+-- nothing is told.
 pub record ArePrinted (tells : Type 0) (before after : Outputs) (said : Said) (status : ℕ) : Type 0 where
   pub status_is : status ≡ status_of said.verdict
+  pub out_quiet : SameCounts before.out_faults after.out_faults
+  pub errs_quiet : SameCounts before.errs_faults after.errs_faults
   pub out_is : tells → after.out ≡ before.out ++ said.out
   pub errs_is : tells → after.errs ≡ before.errs ++ errs_of said.verdict
 

@@ -7,13 +7,15 @@ use Rattle.dm_types.specs.declared.item.Phase.TheVariants as phases
 use Rattle.dm_types.specs.declared.reason.Reason.{Reason}
 use Rattle.dm_types.specs.declared.reason.Reason.TheVariants as reasons
 use Rattle.dm_item.specs.Listing.{item_in}
+use Rattle.dm_report.specs.Csv.{csv_of}
+use Rattle.dm_report.specs.Report.{report_of}
 use Rattle.dm_report.specs.Said.{Said, only}
 use Rattle.dm_report.specs.Texts.{item_line_of, item_text_of}
 use Rattle.dm_report.specs.declared.verdict.Verdict.TheVariants.{Done, Interrupted, NoMemory}
 use Rattle.dm_does.specs.declared.course.Course.{Course}
 use Rattle.dm_does.specs.declared.course.Course.TheVariants.{Ends, Brings}
 use Rattle.dm_does.specs.declared.course.Show.{Show}
-use Rattle.dm_does.specs.declared.course.Show.TheVariants.{Nothing, Line, Lines, Whole}
+use Rattle.dm_does.specs.declared.course.Show.TheVariants.{Nothing, Line, Lines, Whole, Counts, Records}
 
 -- the text of an item that is there
 abbrev pub text_in : (Item → List ℕ) → Option Item → List ℕ
@@ -26,6 +28,8 @@ shown items Nothing = []
 shown items (Line id) = text_in item_line_of (item_in id.0 items)
 shown items Lines = concat (map item_line_of items)
 shown items (Whole id) = text_in item_text_of (item_in id.0 items)
+shown items Counts = report_of items
+shown items Records = csv_of items
 
 -- an interruption is told with the item's line, but for one by want of memory
 abbrev pub said_interrupted : Reason → List ℕ → Said

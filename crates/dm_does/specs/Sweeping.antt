@@ -19,6 +19,8 @@ sweeps (jobs.Add order) = false
 sweeps (jobs.Pause id) = false
 sweeps (jobs.Show id) = false
 sweeps jobs.List = false
+sweeps jobs.Report = false
+sweeps jobs.Export = false
 
 -- no part stands that an item of the list once had and that none needs
 abbrev pub HasNoLeftover : DiskState → Listing → Type 0

@@ -11,6 +11,10 @@ pub enum Show {
     Lines,
     /// The item with this id, whole.
     Whole(ItemId),
+    /// How many items are in each state.
+    Counts,
+    /// The list as CSV.
+    Records,
 }
 
 /// How a command goes on behind its own entries.

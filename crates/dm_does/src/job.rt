@@ -14,4 +14,8 @@ pub enum Job {
     Remove(ItemId),
     Show(ItemId),
     List,
+    /// Count the items.
+    Report,
+    /// Tell the list as CSV.
+    Export,
 }

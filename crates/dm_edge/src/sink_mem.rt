@@ -4,6 +4,7 @@ ghost use Rattle.dm_edge.specs.Counts.{edge_count};
 ghost use Rattle.dm_edge.specs.Faults.{edge_kind};
 ghost use Rattle.dm_edge.specs.Sink.{Writes};
 ghost use Rattle.dm_edge.specs.SinkMem.{MustFail, with_piece, failed_once};
+ghost use Rattle.dm_edge.specs.declared.fault.EdgeFault.{EdgeFault as Fault};
 
 use crate::{EdgeFault, Sink};
 use dm_types::NoMemory;
@@ -80,6 +81,7 @@ impl Sink for SinkMem {
         ensures within { IfOk result (λ n. n ≤ length piece.now) }
         ensures written { Writes self.old.written self.new.written result piece.now }
         ensures cause { HasCause edge_kind (edge_count self.old.failed) (edge_count self.new.failed) result }
+        ensures quiet { IfOk result (λ _. (kind : Fault) → edge_count self.new.failed kind ≡ edge_count self.old.failed kind) }
 
         // In memory the answer is determined.
         ensures fails { IsErr result ↔ MustFail self.old piece.now }

@@ -1,5 +1,5 @@
 -- The item and the life of an attempt that begins.
-use Rattle.std.proofs.Common.{◌≡◌, ℕ, ◌+◌, ◌==◌, ◌&&◌, cond, Bool, true, false, IsTrue, List, [], ◌∷◌, ◌++◌, Option, Some, None, refl, sym, ◌∙◌, ap, subst, arith}
+use Rattle.std.proofs.Common.{◌≡◌, ◌≤◌, ℕ, ◌+◌, ◌==◌, ◌&&◌, cond, Bool, true, false, IsTrue, List, [], ◌∷◌, ◌++◌, length, Option, Some, None, refl, sym, ◌∙◌, ap, subst, arith}
 use Rattle.std.specs.Prelude.{IsSome, is_some}
 use Rattle.std.proofs.lemmas.Bool.{false≢true}
 use Rattle.std.proofs.lemmas.Bool.Decides.{nat_tests}
@@ -17,7 +17,7 @@ use Rattle.dm_types.specs.declared.kinds.By.TheVariants.{Itself, User}
 use Rattle.dm_types.specs.declared.kinds.Mode.{Mode}
 use Rattle.dm_types.specs.declared.kinds.Mode.TheVariants as modes
 use Rattle.dm_policy.specs.Mode.{asked_mode, asks_user, by_user, can_continue, from_start, is_continue, is_last_attempt, is_restart, mode_by, placed_mode}
-use Rattle.dm_item.specs.Fields.{is_running}
+use Rattle.dm_item.specs.Fields.{is_running, no_bytes}
 use Rattle.dm_item.specs.Lawful.{History}
 use Rattle.dm_item.specs.Listing.{Listing, applied, item_in}
 use Rattle.dm_item.specs.Restored.{IsSound}
@@ -31,7 +31,8 @@ use Rattle.dm_store.specs.declared.life.Life.{Life}
 use Rattle.dm_store.proofs.Begun.{pushed_own}
 use Rattle.dm_disk_model.specs.Disk.{History as Clock}
 use Rattle.dm_answers.specs.Begin.{because_of, beginning, begins_anew, epoch_behind, key_behind, may_begin}
-use Rattle.dm_attempt.specs.Scene.{changed_all}
+use Rattle.dm_attempt.specs.Scene.{Scene, changed_all, told_by}
+use Rattle.dm_attempt.specs.Trace.{Tale}
 use Rattle.dm_attempt.proofs.Items.{all_id, item_then}
 use Rattle.dm_fetch.specs.Starts.{IsKept}
 
@@ -93,11 +94,39 @@ module _ (item : Item) (by : By) (at : ℕ) where
   key_test true = refl
   key_test false = refl
 
-  abbrev begun : Item
+  slices_test : (test : Bool) → (changed_all (with_test test) item).slices ≡ cond test no_bytes item.slices
+  slices_test true = refl
+  slices_test false = refl
+
+  total_test : (test : Bool) → (changed_all (with_test test) item).total ≡ cond test None item.total
+  total_test true = refl
+  total_test false = refl
+
+  address_test : (test : Bool) → (changed_all (with_test test) item).last_address ≡ cond test None item.last_address
+  address_test true = refl
+  address_test false = refl
+
+  digest_test : (test : Bool) → (changed_all (with_test test) item).digest ≡ item.digest
+  digest_test true = refl
+  digest_test false = refl
+
+  abbrev pub begun : Item
   begun = changed_all (beginning item by at) item
 
   pub begun_key : begun.key ≡ key_behind item
   begun_key = key_test (begins_anew item)
+
+  pub begun_slices : begun.slices ≡ cond (begins_anew item) no_bytes item.slices
+  begun_slices = slices_test (begins_anew item)
+
+  pub begun_total : begun.total ≡ cond (begins_anew item) None item.total
+  begun_total = total_test (begins_anew item)
+
+  pub begun_address : begun.last_address ≡ cond (begins_anew item) None item.last_address
+  begun_address = address_test (begins_anew item)
+
+  pub begun_digest : begun.digest ≡ item.digest
+  begun_digest = digest_test (begins_anew item)
 
   pub begun_runs : is_running begun.phase ≡ true
   begun_runs = runs_test (begins_anew item)
@@ -172,25 +201,29 @@ not_anew : (begun restart : Bool) → (begun && restart) ≡ false → IsTrue be
 not_anew true restart none was = none
 not_anew false restart none was = absurd (false≢true was)
 
-kept_by : (key : Option Key) (total : Option ℕ) (address : Option (List ℕ)) → is_strong key ≡ true → is_some total ≡ true → is_some address ≡ is_some key → (item : Item) → item.key ≡ key → item.total ≡ total → item.last_address ≡ address → IsKept item
-kept_by (Some (Strong tag)) (Some total) (Some address) strong known has item key_is total_is address_is = record { tag = tag; key_is = key_is; total = total; total_is = total_is; address = address; address_is = address_is }
-kept_by (Some (Strong tag)) (Some total) None strong known has item key_is total_is address_is = absurd (false≢true has)
-kept_by (Some (Strong tag)) None address strong known has item key_is total_is address_is = absurd (false≢true known)
-kept_by (Some (Once id attempt)) total address strong known has item key_is total_is address_is = absurd (false≢true strong)
-kept_by None total address strong known has item key_is total_is address_is = absurd (false≢true strong)
+kept_by : (key : Option Key) (total : Option ℕ) (address : Option (List ℕ)) → is_strong key ≡ true → is_some total ≡ true → is_some address ≡ is_some key → (item : Item) → item.key ≡ key → item.total ≡ total → item.last_address ≡ address → length item.slices ≤ 64 → IsKept item
+kept_by (Some (Strong tag)) (Some total) (Some address) strong known has item key_is total_is address_is few = record { few = few; tag = tag; key_is = key_is; total = total; total_is = total_is; address = address; address_is = address_is }
+kept_by (Some (Strong tag)) (Some total) None strong known has item key_is total_is address_is few = absurd (false≢true has)
+kept_by (Some (Strong tag)) None address strong known has item key_is total_is address_is few = absurd (false≢true known)
+kept_by (Some (Once id attempt)) total address strong known has item key_is total_is address_is few = absurd (false≢true strong)
+kept_by None total address strong known has item key_is total_is address_is few = absurd (false≢true strong)
 
 -- behind a beginning that isn't anew the item has the same key, total and address
 kept_test : (item : Item) (by : By) (at : ℕ) (test : Bool) → test ≡ false → IsKept item → IsKept (changed_all (cond test (renewal item by at ∷ []) [] ++ start item by at ∷ []) item)
 kept_test item by at true not kept = absurd (false≢true (sym not))
-kept_test item by at false not kept = record { tag = kept.tag; key_is = kept.key_is; total = kept.total; total_is = kept.total_is; address = kept.address; address_is = kept.address_is }
+kept_test item by at false not kept = record { few = kept.few; tag = kept.tag; key_is = kept.key_is; total = kept.total; total_is = kept.total_is; address = kept.address; address_is = kept.address_is }
+
+few_test : (item : Item) (by : By) (at : ℕ) (test : Bool) → test ≡ false → length (changed_all (with_test item by at test) item).slices ≤ 64 → length item.slices ≤ 64
+few_test item by at true not few = absurd (false≢true (sym not))
+few_test item by at false not few = few
 
 told_test : (test : Bool) (key : Option Key) → IsSome (cond test None key) → (test ≡ false) × IsSome key
 told_test true key told = absurd (false≢true told)
 told_test false key told = (refl, told)
 
-pub kept_begun : {D O : Type 0} (tells : Type 0) (clock : D → Clock) (desk : View D O) → IsDesk tells clock desk → (item : Item) → item_in item.id.0 desk.items.items ≡ Some item → (by : By) (at : ℕ) → IsTrue (may_begin by item) → IsSome (key_behind item)
+pub kept_begun : {D O : Type 0} (tells : Type 0) (clock : D → Clock) (desk : View D O) → IsDesk tells clock desk → (item : Item) → item_in item.id.0 desk.items.items ≡ Some item → (by : By) (at : ℕ) → IsTrue (may_begin by item) → IsSome (key_behind item) → length (changed_all (beginning item by at) item).slices ≤ 64
     → IsKept (changed_all (beginning item by at) item)
-kept_begun tells clock desk is item there by at may told =
+kept_begun tells clock desk is item there by at may told few =
     let found = told_test (begins_anew item) item.key told in
     let sound : IsSound item = sound_in (is.founded.before ++ desk.list) desk.items item.id.0 item is.founded.items there in
     let begun : IsTrue item.begun = sound.told.is_begun found.1 in
@@ -200,4 +233,9 @@ kept_begun tells clock desk is item there by at may told =
     let can = can_go_on item on in
     let two = and_left (facts.strong && facts.total) facts.covered can in
     kept_test item by at (begins_anew item) found.0
-    (kept_by item.key item.total item.last_address (and_left facts.strong facts.total two) (and_right facts.strong facts.total two) sound.told.has_address item refl refl refl)
+    (kept_by item.key item.total item.last_address (and_left facts.strong facts.total two) (and_right facts.strong facts.total two) sound.told.has_address item refl refl refl (few_test item by at (begins_anew item) found.0 few))
+
+-- the stated digest stays
+pub told_digest : {D O : Type 0} (scene : Scene D O) (told : Option Tale) → (told_by scene told).digest ≡ scene.item.digest
+told_digest scene None = begun_digest scene.item scene.by scene.at
+told_digest scene (Some tale) = begun_digest scene.item scene.by scene.at

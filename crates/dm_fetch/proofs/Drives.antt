@@ -1,5 +1,5 @@
 -- What the asking and reading of an attempt leave.
-use Rattle.std.proofs.Common.{◌≡◌, inl, inr, ℕ, List, [], Option, None, Some, Result, Ok, Err, refl, sym, ◌∙◌, ap, subst}
+use Rattle.std.proofs.Common.{◌≡◌, inl, inr, ◌≤◌, ℕ, List, [], length, Option, None, Some, Result, Ok, Err, refl, sym, ◌∙◌, ap, subst}
 use Rattle.std.specs.Prelude.{IsSome, is_some}
 use Rattle.std.proofs.lemmas.List.{append-nil}
 use Rattle.std.proofs.lemmas.Option.{same_Some}
@@ -60,7 +60,7 @@ module _ {D O : Type 0} (tells : Type 0) (clock : D → Clock) (says : O → Say
   pub unread_stops : (text : List ℕ) (stop : Stop) (slices : ℕ) → begins_at (begun_by scene).key (begun_by scene) ≡ text → Unreads text stop → DriveStops tells clock says far counts net scene pass old was before before slices stop
   unread_stops text stop slices is unread = record {
     trace = untold [] [] 0;
-    asks = nothing (record { led = refl; lost = refl; told = refl; rounds = refl });
+    asks = nothing (record { led = refl; lost = refl; wish = refl; told = refl; rounds = refl });
     closed_is = λ t. begun.closed_is ∙ sym (append-nil scene.closed);
     holds = unread_holds text stop unread;
     shown = unread_shown text stop is unread before;
@@ -97,17 +97,17 @@ module _ {D O : Type 0} (tells : Type 0) (clock : D → Clock) (says : O → Say
     }
 
     -- the same of one that goes on
-    pub kept_drives : (source : Source) → IsSourceOf (begun_by scene) source → (result : Result (Unit {0}) Stop)
+    pub kept_drives : (source : Source) → IsSourceOf (begun_by scene) source → length (begun_by scene).slices ≤ 64 → (result : Result (Unit {0}) Stop)
         → RunLeaves tells clock says far counts net scene pass new closed before after (untold [] [] slices) (kept_asking pass source) result → DriveLeaves tells clock says far counts net scene pass new closed before after slices result
-    kept_drives source is (Ok done) leaves = record {
+    kept_drives source is few (Ok done) leaves = record {
       trace = leaves.trace;
-      asks = on (record { source = source; is = is; led = leaves.from.led_is; lost = leaves.from.lost_is; told = leaves.from.told_is; count = leaves.from.count_is; rounds = leaves.rounds });
+      asks = on (record { source = source; is = is; few = few; led = leaves.from.led_is; lost = leaves.from.lost_is; wish = leaves.from.wish_is; told = leaves.from.told_is; count = leaves.from.count_is; rounds = leaves.rounds });
       closed_is = leaves.ended.closed_is;
       finished = record { digest = leaves.ended.digest; done = leaves.ended.done; saves = leaves.ended.saves; over = leaves.ended.over };
     }
-    kept_drives source is (Err stop) leaves = record {
+    kept_drives source is few (Err stop) leaves = record {
       trace = leaves.trace;
-      asks = on (record { source = source; is = is; led = leaves.from.led_is; lost = leaves.from.lost_is; told = leaves.from.told_is; count = leaves.from.count_is; rounds = leaves.rounds });
+      asks = on (record { source = source; is = is; few = few; led = leaves.from.led_is; lost = leaves.from.lost_is; wish = leaves.from.wish_is; told = leaves.from.told_is; count = leaves.from.count_is; rounds = leaves.rounds });
       closed_is = leaves.stopped.closed_is;
       holds = leaves.stopped.holds;
       shown = if_net after leaves.trace stop leaves.stopped.shown;

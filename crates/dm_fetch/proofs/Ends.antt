@@ -125,7 +125,7 @@ module _ {D O : Type 0} (tells : Type 0) (clock : D → Clock) (says : O → Say
         → TriedBy tells clock says far counts net (scene_of old found.item by at was before) (pass_of found.item) new closed before after slices (ended.Stopped reasons.FileTooShort)
     short_tried have wanted found = record {
       trace = untold [] [] 0;
-      asks = nothing (record { led = refl; lost = refl; told = refl; rounds = refl });
+      asks = nothing (record { led = refl; lost = refl; wish = refl; told = refl; rounds = refl });
       closed_is = λ t. still t ∙ sym (append-nil was);
       ends = record { cause = causes.PartShort have wanted; reason_is = refl; saves = []; met = at_desk (inr (record { have = have; wanted = wanted; is = refl; short = found.is.short; untold = refl; none = refl })); over = found.is.over was before };
     }
@@ -134,7 +134,7 @@ module _ {D O : Type 0} (tells : Type 0) (clock : D → Clock) (says : O → Say
         → TriedBy tells clock says far counts net (scene_of old found.item by at was before) (pass_of found.item) new closed before after slices (ended.Fault fault)
     failed_tried fault found = record {
       trace = untold [] [] 0;
-      asks = nothing (record { led = refl; lost = refl; told = refl; rounds = refl });
+      asks = nothing (record { led = refl; lost = refl; wish = refl; told = refl; rounds = refl });
       closed_is = λ t. still t ∙ sym (append-nil was);
       ends = leaves_ends (scene_of old found.item by at was before) new (untold [] [] 0) (Met net (scene_of old found.item by at was before) (pass_of found.item) new before after (untold [] [] 0)) fault (found.is.ends was before);
     }

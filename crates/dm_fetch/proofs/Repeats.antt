@@ -3,6 +3,7 @@ use Rattle.std.proofs.Common.{◌≡◌, ◌<◌, ◌≤◌, ℕ, suc, ◌+◌, 
 use Rattle.std.specs.Prelude.{nat_le}
 use Rattle.std.proofs.lemmas.Bool.{false≢true}
 use Rattle.std.proofs.lemmas.Bool.Decides.{nat_tests}
+use Rattle.dm_types.specs.Faults.{NoneFell}
 use Rattle.dm_types.specs.declared.item.Item.{Item}
 use Rattle.dm_types.specs.declared.item.ItemId.{ItemId}
 use Rattle.dm_types.specs.declared.item.Phase.{Phase}
@@ -69,7 +70,7 @@ left_of (ended.Fault fault) autos = 0
 
 module _ {D O : Type 0} (tells : Type 0) (clock : D → Clock) (says : O → Says) (far : D → ℕ) (counts : D → DiskKind → ℕ) (net : Type 0) (id : ItemId) (slices at : ℕ) where
   abbrev Did : View D O → List Closed → (NetFault → ℕ) → View D O → List Closed → (NetFault → ℕ) → By → Ended → Type 0
-  Did old was before new closed after by end = Attempts tells clock says far counts net old new was closed before after id by slices at end
+  Did old was before new closed after by end = Attempts tells clock says far counts net old new was closed before after id by slices at end × NoneFell before after
 
   abbrev All : View D O → List Closed → (NetFault → ℕ) → By → View D O → List Closed → (NetFault → ℕ) → Ended → ℕ → Type 0
   All old was before by new now after end more = Fetches tells clock says far counts net id slices at new now after end old was before by more
@@ -97,7 +98,7 @@ module _ {D O : Type 0} (tells : Type 0) (clock : D → Clock) (says : O → Say
 
   counts_user : (start : View D O) (first : List Closed) (counted : NetFault → ℕ) (desk : View D O) (closed : List Closed) (faults : NetFault → ℕ) (end : Ended) → Did start first counted desk closed faults User end → HasCounted desk 0 end
   counts_user start first counted desk closed faults ended.Complete did = tt
-  counts_user start first counted desk closed faults (ended.Stopped reason) did = autos_rise tells clock says far counts net start desk first closed counted faults id User slices at reason did
+  counts_user start first counted desk closed faults (ended.Stopped reason) did = autos_rise tells clock says far counts net start desk first closed counted faults id User slices at reason did.0
   counts_user start first counted desk closed faults (ended.Fault fault) did = tt
 
   pub first_last : (start : View D O) (first : List Closed) (counted : NetFault → ℕ) (desk : View D O) (closed : List Closed) (faults : NetFault → ℕ) (end : Ended) → Did start first counted desk closed faults User end
@@ -117,7 +118,7 @@ module _ {D O : Type 0} (tells : Type 0) (clock : D → Clock) (says : O → Say
   goes_again : (old mid new : View D O) (was between now : List Closed) (before amid after : NetFault → ℕ) (by : By) (end last : Ended) (more : ℕ) → Did old was before mid between amid by end → GoesOn mid id end → All mid between amid Itself new now after last more
       → All old was before by new now after last (suc more)
   goes_again old mid new was between now before amid after by ended.Complete last more did goes all = absurd goes
-  goes_again old mid new was between now before amid after by (ended.Stopped reason) last more did goes all = again old was before by mid between amid reason more did goes all
+  goes_again old mid new was between now before amid after by (ended.Stopped reason) last more did goes all = again old was before by mid between amid reason more did.0 did.1 goes all
   goes_again old mid new was between now before amid after by (ended.Fault fault) last more did goes all = absurd goes
 
   -- an item that goes on has made fewer than five by itself, and they are counted
@@ -130,7 +131,7 @@ module _ {D O : Type 0} (tells : Type 0) (clock : D → Clock) (says : O → Say
 
   counts_itself : (desk later : View D O) (closed now : List Closed) (faults after : NetFault → ℕ) (done : ℕ) (next : Ended) → autos_at desk ≡ done → Did desk closed faults later now after Itself next → HasCounted later (done + 1) next
   counts_itself desk later closed now faults after done ended.Complete same did = tt
-  counts_itself desk later closed now faults after done (ended.Stopped reason) same did = autos_rise tells clock says far counts net desk later closed now faults after id Itself slices at reason did ∙ ap (λ (n : ℕ). n + 1) same
+  counts_itself desk later closed now faults after done (ended.Stopped reason) same did = autos_rise tells clock says far counts net desk later closed now faults after id Itself slices at reason did.0 ∙ ap (λ (n : ℕ). n + 1) same
   counts_itself desk later closed now faults after done (ended.Fault fault) same did = tt
 
   -- another attempt came behind the last one
@@ -160,7 +161,7 @@ module _ {D O : Type 0} (tells : Type 0) (clock : D → Clock) (says : O → Say
       record {
         more = last.done;
         few = last.few;
-        all = subst (All start first counted User desk closed faults end) none (last.rest desk closed faults end 0 (once last.old last.was last.before last.by last.did stays));
+        all = subst (All start first counted User desk closed faults end) none (last.rest desk closed faults end 0 (once last.old last.was last.before last.by last.did.0 last.did.1 stays));
       }
 
   some_left : (desk : View D O) (end : Ended) → GoesOn desk id end → (left_of end (autos_at desk) ≡ 6 - autos_at desk) × (autos_at desk < 5)
@@ -171,7 +172,7 @@ module _ {D O : Type 0} (tells : Type 0) (clock : D → Clock) (says : O → Say
   fewer : (desk later : View D O) (closed now : List Closed) (faults after : NetFault → ℕ) (next : Ended) → autos_at desk < 5 → Did desk closed faults later now after Itself next → left_of next (autos_at later) < 6 - autos_at desk
   fewer desk later closed now faults after ended.Complete few did = omega (arith, few)
   fewer desk later closed now faults after (ended.Stopped reason) few did =
-      let rise : autos_at later ≡ autos_at desk + 1 = autos_rise tells clock says far counts net desk later closed now faults after id Itself slices at reason did in
+      let rise : autos_at later ≡ autos_at desk + 1 = autos_rise tells clock says far counts net desk later closed now faults after id Itself slices at reason did.0 in
       omega (arith, few, rise)
   fewer desk later closed now faults after (ended.Fault fault) few did = omega (arith, few)
 

@@ -37,26 +37,26 @@ use Rattle.dm_fetch.specs.Starts.{BeginRefuses, scene_of}
 use Rattle.dm_fetch.proofs.Begun.{renewal, start}
 
 -- the entry changes the item with this number, and nothing else of the list's items
-abbrev Own : ℕ → Entry → Type 0
+abbrev pub Own : ℕ → Entry → Type 0
 Own k e = (v : Listing) → (applied e v).items ≡ changed_at e k v.items
 
-run_item : (k : ℕ) (es : History) (v : Listing) (item : Item) → AllByRecursion (Own k) es → item_in k v.items ≡ Some item → item_in k (run_of es v).items ≡ Some (changed_all es item)
+pub run_item : (k : ℕ) (es : History) (v : Listing) (item : Item) → AllByRecursion (Own k) es → item_in k v.items ≡ Some item → item_in k (run_of es v).items ≡ Some (changed_all es item)
 run_item k [] v item own there = there
 run_item k (e ∷ es) v item own there = run_item k es (applied e v) (changed e item) own.1 (ap (item_in k) (own.0 v) ∙ item_then e k v.items item there)
 
-own_both : (k : ℕ) (xs ys : History) → AllByRecursion (Own k) xs → AllByRecursion (Own k) ys → AllByRecursion (Own k) (xs ++ ys)
+pub own_both : (k : ℕ) (xs ys : History) → AllByRecursion (Own k) xs → AllByRecursion (Own k) ys → AllByRecursion (Own k) (xs ++ ys)
 own_both k [] ys own more = more
 own_both k (x ∷ xs) ys own more = (own.0, own_both k xs ys own.1 more)
 
-own_test : (item : Item) (by : By) (at : ℕ) (test : Bool) → AllByRecursion (Own item.id.0) (cond test (renewal item by at ∷ []) [] ++ start item by at ∷ [])
+pub own_test : (item : Item) (by : By) (at : ℕ) (test : Bool) → AllByRecursion (Own item.id.0) (cond test (renewal item by at ∷ []) [] ++ start item by at ∷ [])
 own_test item by at true = (λ v. refl, (λ v. refl, tt))
 own_test item by at false = (λ v. refl, tt)
 
-own_told : (id : ItemId) (told : Option Tale) → AllByRecursion (Own id.0) (told_entries id told)
+pub own_told : (id : ItemId) (told : Option Tale) → AllByRecursion (Own id.0) (told_entries id told)
 own_told id None = tt
 own_told id (Some tale) = (λ v. refl, tt)
 
-own_saves : (id : ItemId) (saves : List (List Slice)) → AllByRecursion (Own id.0) (map (entries.Progress id) saves)
+pub own_saves : (id : ItemId) (saves : List (List Slice)) → AllByRecursion (Own id.0) (map (entries.Progress id) saves)
 own_saves id [] = tt
 own_saves id (slices ∷ more) = (λ v. refl, own_saves id more)
 

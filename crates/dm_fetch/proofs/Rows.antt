@@ -1,5 +1,6 @@
 -- Worked rows: what attempts record, and what ranges ask for.
-use Rattle.std.proofs.Common.{◌≡◌, ℕ, false, true, List, [], ◌∷◌, codes, Option, Some, None, refl}
+use Rattle.std.proofs.Common.{◌≡◌, ℕ, false, true, List, [], ◌∷◌, codes, Option, Some, None, refl, arith}
+use Rattle.std.proofs.lemmas.Option.{same_Some}
 use Rattle.dm_types.specs.declared.entry.Entry.TheVariants as entries
 use Rattle.dm_types.specs.declared.address.Address.{Address}
 use Rattle.dm_types.specs.declared.item.Item.{Item}
@@ -21,6 +22,7 @@ use Rattle.dm_attempt.specs.Asking.{count_by, range_of}
 use Rattle.dm_attempt.specs.Live.{all_entries}
 use Rattle.dm_attempt.specs.Trace.{Broken, Done, Tale, Trace}
 use Rattle.dm_fetch.specs.Attempts.{begins_at}
+use Rattle.dm_fetch.specs.Known.{OfKnown, kept, told}
 use Rattle.dm_fetch.specs.Starts.{scene_of}
 
 abbrev one : ItemId
@@ -64,7 +66,7 @@ abbrev tale : Tale
 tale = record { address = address; key = strong; total = Some 11; name = codes "hello.txt"; modified = [] }
 
 abbrev trace_of : Option Tale → List (List Slice) → Trace
-trace_of told saves = record { led = []; lost = []; wish = None; told = told; count = 1; rounds = []; saves = saves }
+trace_of heard saves = record { led = []; lost = []; wish = None; told = heard; count = 1; rounds = []; saves = saves }
 
 module _ {D O : Type 0} (desk : View D O) where
   -- all came at once
@@ -117,6 +119,14 @@ row_rest = refl
 
 row_range : range_of (source 11) (record { index = 0; first = 5; end = 11 }) ≡ wanted.Part 5 10 (codes "a") 11
 row_range = refl
+
+-- its total is the one that is known, and no other is
+row_known : OfKnown broken [] place (wanted.Part 5 10 (codes "a") 11)
+row_known = kept refl refl refl
+
+row_unknown : OfKnown broken [] place (wanted.Part 5 10 (codes "a") 12) → ⊥
+row_unknown (kept key_is address_is total_is) = let same = same_Some 11 12 total_is in omega (arith, same)
+row_unknown (told name modified among) = let within = among.1 in omega (arith, within)
 
 -- Two parts of 2 MiB: the second is asked for from its half on.
 

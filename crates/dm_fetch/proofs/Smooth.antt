@@ -1,9 +1,12 @@
 -- Where nothing fails and all is served, few causes stop an attempt.
-use Rattle.std.proofs.Common.{◌≡◌, ◌≢◌, ◌⊎◌, inl, inr, ℕ, length, length-append, List, [], ◌∷◌, ◌++◌, map, Option, Some, None, refl, sym, ◌∙◌, ap, subst, arith}
+use Rattle.std.proofs.Common.{◌≡◌, ◌≢◌, ◌⊎◌, inl, inr, ◌≤◌, ℕ, length, length-append, List, [], ◌∷◌, ◌++◌, map, Option, Some, None, refl, sym, ◌∙◌, ap, subst, arith}
 use Rattle.std.specs.Prelude.{IfSome}
+use Rattle.sha2.specs.Sha256.{sha256}
 use Rattle.std.specs.List.{AllByRecursion, Contains}
+use Rattle.std.proofs.lemmas.Bool.{false≢true}
 use Rattle.std.proofs.lemmas.List.{append-nil, get_or-map, length-map}
 use Rattle.std.proofs.lemmas.List.Elements.{Contains-append_left, Contains-append_right}
+use Rattle.std.proofs.lemmas.Option.{none-some, same_Some}
 use Rattle.dm_types.specs.Faults.{NoneRose, Rose}
 use Rattle.dm_types.specs.declared.address.Address.{Address}
 use Rattle.dm_types.specs.declared.item.Item.{Item}
@@ -12,8 +15,8 @@ use Rattle.dm_types.specs.declared.item.Key.{Key}
 use Rattle.dm_types.specs.declared.kinds.By.{By}
 use Rattle.dm_types.specs.declared.kinds.DiskKind.{DiskKind}
 use Rattle.dm_types.specs.declared.reason.Reason.{Reason}
-use Rattle.dm_types.specs.declared.slices.Slice.{Slice}
-use Rattle.dm_disk_model.specs.Disk.{History as Clock}
+use Rattle.dm_disk_model.specs.Disk.{History as Clock, IsSoundDisk}
+use Rattle.dm_policy.specs.Cause.{reason_of_cause}
 use Rattle.dm_policy.specs.declared.cause.Cause.{Cause}
 use Rattle.dm_policy.specs.declared.cause.Cause.TheVariants as causes
 use Rattle.dm_request.specs.Request.{request_of}
@@ -25,25 +28,36 @@ use Rattle.dm_ask.specs.Causes.{net_kind_of}
 use Rattle.dm_ask.specs.Following.{SentUntil}
 use Rattle.dm_ask.specs.Redirects.{Led, most_redirects, purpose_of}
 use Rattle.dm_item.specs.History.{get}
+use Rattle.dm_item.specs.Lawful.{History}
 use Rattle.dm_item.specs.Listing.{item_in}
+use Rattle.dm_item.specs.Restored.{IsSound}
+use Rattle.dm_item.proofs.Shorts.{sound_in}
 use Rattle.dm_kept.specs.Files.{Says}
 use Rattle.dm_store.specs.View.{View}
 use Rattle.dm_store.specs.declared.pass.Pass.{Pass}
-use Rattle.dm_answers.specs.Begin.{pass_of}
+use Rattle.dm_answers.specs.Begin.{may_begin, pass_of}
 use Rattle.dm_answers.specs.declared.fault.DeskFault.{DeskFault}
 use Rattle.dm_answers.specs.declared.fault.DeskFault.TheVariants as faults
 use Rattle.dm_attempt.specs.declared.ended.Ended.{Ended}
 use Rattle.dm_attempt.specs.declared.ended.Ended.TheVariants as ended
 use Rattle.dm_attempt.specs.Ending.{FaultEnds, IsDeskCause}
-use Rattle.dm_attempt.specs.Scene.{Scene, begun_by}
-use Rattle.dm_attempt.specs.Trace.{Carried, Round, Trace, connections_of, wires_of}
+use Rattle.dm_attempt.specs.Live.{IsPlanned}
+use Rattle.dm_attempt.specs.Scene.{Scene, begun_by, told_by}
+use Rattle.dm_attempt.specs.Trace.{ArePlanned, Broken, Carried, Round, Trace, connections_of, wires_of, with_saves}
+use Rattle.dm_attempt.proofs.Items.{found_id}
 use Rattle.dm_rounds.specs.First.{IsLedAndLost, IsLostAt}
-use Rattle.dm_rounds.specs.Trail.{AreCut, ContentShows, HeadShows, IsShown, NetShowsIt}
+use Rattle.dm_rounds.specs.Trail.{AreCut, AreUsedUp, ContentShows, HeadShows, IsShown, NetShowsIt}
 use Rattle.dm_rounds.proofs.Causes.{net_apart}
 use Rattle.dm_fetch.specs.Attempts.{Asks, Attempts, IsMetBy, MetAtNet, TriedBy, anew, at_desk, at_net, begins_at, nothing, on, refused, tried, wanting}
-use Rattle.dm_fetch.specs.Completes.{CompletesOr, IsLeft, IsSmooth}
+use Rattle.dm_fetch.specs.Completes.{AreSaid, CompletesOr, HasFree, IsSmooth, names_begun}
+use Rattle.dm_fetch.specs.Known.{IsKnownOf, OfKnown}
 use Rattle.dm_fetch.specs.Serves.{HasAddress, IsRedirection, IsRowOf, ServesWhole}
-use Rattle.dm_fetch.specs.Starts.{scene_of}
+use Rattle.dm_fetch.specs.Starts.{BeginRefuses, scene_of}
+use Rattle.dm_fetch.proofs.Asked.{asked_described, asked_wish, used_up_never}
+use Rattle.dm_fetch.proofs.Begun.{told_digest}
+use Rattle.dm_fetch.proofs.Desk.{Differs, desk_differs, sum_stated}
+use Rattle.dm_fetch.proofs.Known.{Knows, known_left, knows_left}
+use Rattle.dm_fetch.proofs.Sources.{content_known, head_known}
 use Rattle.dm_fetch.proofs.Served.{IsEleventh, served_content, served_head}
 
 last_address : (item : Item) (address : Option (List ℕ)) → HasAddress item.first_address → IfSome address HasAddress → HasAddress (get address item.first_address)
@@ -54,7 +68,7 @@ begins_read : (key : Option Key) (item : Item) → HasAddress item.first_address
 begins_read None item first last = first
 begins_read (Some key) item first last = last_address item item.last_address first last
 
-module _ (before after : NetFault → ℕ) (none : NoneRose before after) (trace : Trace) (item : Item) (serves : ServesWhole item (connections_of trace)) (cause : Cause) (apart : cause ≢ causes.Memory) where
+module _ (before after : NetFault → ℕ) (none : NoneRose before after) (trace : Trace) (item : Item) (list : History) (serves : ServesWhole item list (connections_of trace)) (cause : Cause) (apart : cause ≢ causes.Memory) where
   no_fault : IsNetFault before after cause → ⊥
   no_fault fault = none fault.kind fault.rose
 
@@ -67,11 +81,11 @@ module _ (before after : NetFault → ℕ) (none : NoneRose before after) (trace
   all_sent request sent (inr front) = absurd (no_cut front.0)
 
   module _ (counted : IfSome (net_kind_of cause) (λ kind. Rose (before kind) (after kind))) where
-    head_left : (shows : HeadShows before after trace cause) → IsEleventh shows.wanted shows.followed shows.connection.stream
-    head_left shows =
+    head_left : (shows : HeadShows before after trace cause) → OfKnown item list shows.connection.purpose.address.text shows.wanted → IsEleventh shows.wanted shows.followed shows.connection.stream
+    head_left shows known =
         let c = shows.connection in
         served_head before after none cause counted shows.wanted c.purpose.address shows.followed c.stream
-        (serves.each c shows.wanted shows.among (all_sent (request_of c.purpose.address (ask_of shows.wanted)) c.sent shows.sent)) shows.met
+        (serves.each c shows.wanted shows.among known (all_sent (request_of c.purpose.address (ask_of shows.wanted)) c.sent shows.sent)) shows.met
 
 contains_map : {X Y : Type 0} (f : X → Y) (xs : List X) (x : X) → Contains xs x → Contains (map f xs) (f x)
 contains_map f xs x among = (among.0, omega (arith, among.1, length-map xs f), get_or-map f xs among.0 x (f x) among.1 ∙ ap f among.2)
@@ -143,10 +157,7 @@ module _ {D O : Type 0} (tells : Type 0) (clock : D → Clock) (says : O → Say
   asked_redirect scene pass slices trace (on asks) led c is redirects = absurd (none_last led c (ap (λ (l : List Closed). l ++ []) (sym asks.led) ∙ ap (λ (l : List Closed). trace.led ++ l) (sym asks.lost) ∙ is))
 
   module _ (scene : Scene D O) (pass : Pass) (slices : ℕ) (before after : NetFault → ℕ) (none : NoneRose before after) (trace : Trace) (asks : Asks tells clock says far counts net scene pass slices (AreCut net) trace)
-      (serves : ServesWhole (begun_by scene) (connections_of trace)) (cause : Cause) where
-    abbrev Left : Type 0
-    Left = IsLeft tells clock says far counts scene pass trace cause
-
+      (list : History) (knows : Knows scene trace list) (serves : ServesWhole (begun_by scene) list (connections_of trace)) (cause : Cause) where
     eleven : (led : List Closed) (c : Closed) → trace.led ++ trace.lost ≡ led ++ c ∷ [] → IsRedirection c → length led ≡ most_redirects → ⊥
     eleven led c is redirects many =
         let few = serves.few (trace.led ++ trace.lost) (lost_row trace.led (wires_of trace.rounds) trace.lost) (asked_redirect scene pass slices trace asks led c is redirects) in
@@ -159,35 +170,53 @@ module _ {D O : Type 0} (tells : Type 0) (clock : D → Clock) (says : O → Say
       content_left (round ∷ older) is shows =
           let c = shows.c.connection in
           served_content before after none cause counted apart shows.c.wanted c.purpose.address c.stream shows.share.bytes
-          (serves.each c shows.c.wanted (newest_among trace round older is shows.c shows.among) shows.sent) shows.is
+          (serves.each c shows.c.wanted (newest_among trace round older is shows.c shows.among) (content_known scene pass trace list net t tells clock says far counts slices knows asks round older is shows.c shows.among) shows.sent) shows.is
+
+      -- what was wanted is the whole content, or a range of known total
+      head_wants : (shows : HeadShows before after trace cause) → OfKnown (begun_by scene) list shows.connection.purpose.address.text shows.wanted
+      head_wants shows = elim shows.asked [
+        | inl whole ↦ subst (OfKnown (begun_by scene) list shows.connection.purpose.address.text) (sym whole) tt
+        | inr asked ↦ head_known scene pass trace list net t tells clock says far counts slices knows asks trace.rounds refl shows.connection.purpose shows.wanted asked
+      ]
 
       head_none : HeadShows before after trace cause → ⊥
       head_none shows =
-          let eleventh = head_left before after none trace (begun_by scene) serves cause apart counted shows in
+          let eleventh = head_left before after none trace (begun_by scene) list serves cause apart counted shows (head_wants shows) in
           let last = shows.last eleventh.whole in
           eleven last.0 shows.connection last.1 (record { location = eleventh.location; redirects = eleventh.redirects }) (sym last.2 ∙ eleventh.many)
 
       showing_none : NetShowsIt before after trace cause → ⊥
-      showing_none (inl fault) = no_fault before after none trace (begun_by scene) serves cause apart fault
+      showing_none (inl fault) = no_fault before after none trace (begun_by scene) list serves cause apart fault
       showing_none (inr (inl shows)) = head_none shows
       showing_none (inr (inr shows)) = content_left trace.rounds refl shows
 
-    shown_left : IsShown net before after scene trace cause → Left
-    shown_left (inl up) = inr up
-    shown_left (inr shown) = absurd (showing_none shown.1 (net_apart cause shown.0) (shown.2 t))
+    -- nothing is met at the net
+    module _ (some : 1 ≤ slices) (least : 1 ≤ scene.start.limits.min_slice) (sound : IsSound scene.item) (planned : ArePlanned (begun_by scene).slices (told_by scene trace.told).total trace.count scene.start.limits.min_slice trace.rounds) where
+      up_none : AreUsedUp scene trace cause → ⊥
+      up_none up = used_up_never net t tells clock says far counts scene pass slices trace list knows some least sound asks serves planned cause up
 
-    net_left : MetAtNet net before after scene trace cause → Left
-    net_left (inl unread) = let there = begins_read (begun_by scene).key (begun_by scene) serves.first serves.last in absurd (unread.unstable there.address there.stable)
-    net_left (inr shown) = shown_left shown
+      shown_none : IsShown net before after scene trace cause → ⊥
+      shown_none (inl up) = up_none up
+      shown_none (inr shown) = showing_none shown.1 (net_apart cause shown.0) (shown.2 t)
 
-    met_left : (saves : List (List Slice)) → IsMetBy tells clock says far counts net scene pass before after trace saves cause → Left
-    met_left saves (at_desk shows) = inl shows
-    met_left saves (at_net shows saved) = net_left shows
+      pub net_none : MetAtNet net before after scene trace cause → ⊥
+      net_none (inl unread) = let there = begins_read (begun_by scene).key (begun_by scene) serves.first serves.last in unread.unstable there.address there.stable
+      net_none (inr shown) = shown_none shown
 
 module _ {D O : Type 0} (tells : Type 0) (clock : D → Clock) (says : O → Says) (far : D → ℕ) (counts : D → DiskKind → ℕ) (net : Type 0) (old new : View D O) (was closed : List Closed) (before after : NetFault → ℕ) (id : ItemId) (by : By) (slices at : ℕ)
-    (smooth : IsSmooth tells clock counts net old new was closed before after id by at) where
+    (each : tells → (disk : D) (t : ℕ) → IsSoundDisk ((clock disk).at t)) (some : 1 ≤ slices) (smooth : IsSmooth tells clock says counts net old new was closed before after id by at) where
   abbrev Completes : Ended → Type 0
   Completes end = CompletesOr tells clock says far counts old was before id by at end
+
+  own_id : smooth.item.id ≡ id
+  own_id = ap (λ (n : ℕ). record { 0 = n }) (found_id id.0 old.items.items smooth.item smooth.there)
+
+  -- the item that is found is the one
+  own_item : (item : Item) → item_in id.0 old.items.items ≡ Some item → item ≡ smooth.item
+  own_item item there = same_Some item smooth.item (sym there ∙ smooth.there)
+
+  sound_item : IsSound smooth.item
+  sound_item = sound_in smooth.history old.items id.0 smooth.item smooth.holds.items smooth.there
 
   fault_left : (scene : Scene D O) → scene.start ≡ old → (trace : Trace) (P : Cause → Type 0) (fault : DeskFault) → FaultEnds tells clock says far counts scene new trace P fault → fault ≡ faults.NoMemory
   fault_left scene same trace P (faults.File kind) ends = absurd (smooth.disk kind (subst (λ (v : View D O). Rose (counts v.disk kind) (counts new.disk kind)) same ends.0))
@@ -204,28 +233,82 @@ module _ {D O : Type 0} (tells : Type 0) (clock : D → Clock) (says : O → Say
   fault_left scene same trace P (faults.WordTaken other) ends = absurd ends
   fault_left scene same trace P (faults.Damaged place) ends = absurd ends
 
-  tried_left : (item : Item) → item_in id.0 old.items.items ≡ Some item → (end : Ended) → TriedBy tells clock says far counts net (scene_of old item by at was before) (pass_of item) new closed before after slices end → Completes end
-  tried_left item there ended.Complete done = inl refl
-  tried_left item there (ended.Fault fault) done =
-      let scene = scene_of old item by at was before in
-      inr (inl (ap (λ (f : DeskFault). ended.Fault f)
-      (fault_left scene refl done.trace (λ cause. IsDeskCause tells clock says far counts scene (pass_of item) done.trace cause ⊎ MetAtNet net before after scene done.trace cause) fault done.ends)))
-  tried_left item there (ended.Stopped reason) done =
-      let scene = scene_of old item by at was before in
-      inr (inr (record {
-        item = item;
-        there = there;
-        is = record {
-          trace = done.trace;
-          cause = done.ends.cause;
-          end_is = ap (λ (r : Reason). ended.Stopped r) done.ends.reason_is;
-          is = met_left tells clock says far counts net smooth.told scene (pass_of item) slices before after smooth.quiet done.trace done.asks
-              (smooth.serves item there (connections_of done.trace) (done.closed_is smooth.told)) done.ends.cause done.ends.saves done.ends.met;
-        };
-      }))
+  abbrev scene : Scene D O
+  scene = scene_of old smooth.item by at was before
 
-  -- Where nothing fails and all is served, an attempt completes, or memory was wanting, or one of a few causes stopped it.
+  abbrev Tries : Ended → Type 0
+  Tries end = TriedBy tells clock says far counts net (scene_of old smooth.item by at was before) (pass_of smooth.item) new closed before after slices end
+
+  stopped_left : (reason : Reason) → Tries (ended.Stopped reason) → Completes (ended.Stopped reason)
+  stopped_left reason done = met_left done.ends.met
+    where
+      planned : IsPlanned scene (with_saves done.trace done.ends.saves)
+      planned = done.ends.over.planned
+
+      serves : ServesWhole (begun_by scene) new.list (connections_of done.trace)
+      serves = smooth.serves (connections_of done.trace) (done.closed_is smooth.told)
+
+      free_wish : (wish : List ℕ) → done.trace.wish ≡ Some wish → HasFree clock old (names_begun old smooth.item by at) wish
+      free_wish wish is = smooth.free wish (asked_wish net tells clock says far counts scene (pass_of smooth.item) slices done.trace done.asks wish is)
+
+      stated_by : (have wanted : List ℕ) (t : ℕ) → (told_by scene done.trace.told).total ≡ Some t → (told_by scene done.trace.told).digest ≡ Some wanted → (validator : Key) (address bytes : List ℕ) → (told_by scene done.trace.told).key ≡ Some validator
+          → (told_by scene done.trace.told).last_address ≡ Some address → length bytes ≡ t → AreSaid (says old.origin) address validator bytes → wanted ≡ sha256 bytes
+      stated_by have wanted t known digest validator address bytes key_is address_is long said =
+          let is_known : IsKnownOf smooth.item new.list validator address (length bytes) =
+          subst (IsKnownOf smooth.item new.list validator address) (sym long) (known_left scene (with_saves done.trace done.ends.saves) (Broken done.ends.cause) new.list done.ends.over.goes.went.list_is validator address t key_is address_is known) in
+          subst (λ (d : Option (List ℕ)). IfSome d (λ sum. sum ≡ sha256 bytes)) (sym (told_digest scene done.trace.told) ∙ digest) (smooth.stated validator address bytes is_known said)
+
+      differs_by : (total : Option ℕ) → (told_by scene done.trace.told).total ≡ total → Differs tells clock says far counts scene (pass_of smooth.item) done.trace done.ends.cause → Completes (ended.Stopped reason)
+      differs_by None untold differs = inr (inr (
+        ap (λ (r : Reason). ended.Stopped r) (done.ends.reason_is ∙ ap reason_of_cause differs.is),
+        record {
+          item = smooth.item;
+          there = smooth.there;
+          is = record { trace = done.trace; have = differs.have; wanted = differs.wanted; stated = sym (told_digest scene done.trace.told) ∙ differs.met.is.1; untold = untold; met = differs.met };
+        },
+      ))
+      differs_by (Some t) known differs =
+          absurd (sum_stated tells clock says far counts scene (pass_of smooth.item) done.trace smooth.disk_told (each smooth.disk_told) smooth.history smooth.whole smooth.holds differs.have differs.wanted t known differs.met
+          (stated_by differs.have differs.wanted t known differs.met.is.1))
+
+      differs_left : Differs tells clock says far counts scene (pass_of smooth.item) done.trace done.ends.cause → Completes (ended.Stopped reason)
+      differs_left differs = differs_by (told_by scene done.trace.told).total refl differs
+
+      met_left : IsMetBy tells clock says far counts net scene (pass_of smooth.item) before after done.trace done.ends.saves done.ends.cause → Completes (ended.Stopped reason)
+      met_left (at_desk shows) =
+          differs_left (desk_differs tells clock says far counts scene (pass_of smooth.item) done.trace smooth.disk_told (each smooth.disk_told) smooth.history smooth.whole smooth.holds done.ends.cause
+          (subst (λ (i : ItemId). item_in i.0 old.items.items ≡ Some smooth.item) (sym own_id) smooth.there) smooth.may
+          (asked_described net tells clock says far counts scene (pass_of smooth.item) slices done.trace done.asks sound_item) free_wish shows)
+      met_left (at_net shows saved) =
+          absurd (net_none tells clock says far counts net smooth.told scene (pass_of smooth.item) slices before after smooth.quiet done.trace done.asks new.list (knows_left scene (with_saves done.trace done.ends.saves) (Broken done.ends.cause) new.list done.ends.over.goes.went.list_is) serves done.ends.cause some smooth.desk.limits_are.min_slice.0 sound_item planned.rounds shows)
+
+  tried_left : (end : Ended) → Tries end → Completes end
+  tried_left ended.Complete done = inl refl
+  tried_left (ended.Fault fault) done =
+      inr (inl (ap (λ (f : DeskFault). ended.Fault f)
+      (fault_left scene refl done.trace (λ cause. IsDeskCause tells clock says far counts scene (pass_of smooth.item) done.trace cause ⊎ MetAtNet net before after scene done.trace cause) fault done.ends)))
+  tried_left (ended.Stopped reason) done = stopped_left reason done
+
+  -- it is refused for want of memory alone
+  refused_left : (fault : DeskFault) → BeginRefuses tells clock counts old new id by at fault → fault ≡ faults.NoMemory
+  refused_left faults.Broken why = absurd (false≢true (sym smooth.whole ∙ why.broken))
+  refused_left (faults.NoItem other) why = absurd (none-some smooth.item (sym why.cause.none ∙ smooth.there))
+  refused_left (faults.WrongState phase) why =
+      absurd (false≢true (sym why.cause.is.1 ∙ ap (may_begin by) (own_item why.cause.item why.cause.there) ∙ smooth.may))
+  refused_left faults.NoMemory why = refl
+  refused_left (faults.File kind) why = absurd why
+  refused_left (faults.Journal kind) why = absurd why
+  refused_left (faults.Stale attempt round) why = absurd why
+  refused_left (faults.NotNext place) why = absurd why
+  refused_left (faults.PastEnd end) why = absurd why
+  refused_left (faults.CheckpointDue bytes) why = absurd why
+  refused_left (faults.ItemsFull count) why = absurd why
+  refused_left (faults.WordTaken other) why = absurd why
+  refused_left (faults.Damaged place) why = absurd why
+
+  -- Where nothing stands in the way, an attempt completes, or memory was wanting, or the content has another sum than the one that was stated.
   pub completes_or : (end : Ended) → Attempts tells clock says far counts net old new was closed before after id by slices at end → Completes end
   completes_or end (wanting is same still) = inr (inl is)
-  completes_or end (refused fault is why still) = inr (inl (is ∙ ap (λ (f : DeskFault). ended.Fault f) (smooth.begins fault why)))
-  completes_or end (tried found) = tried_left found.item found.there end found.is
+  completes_or end (refused fault is why still) = inr (inl (is ∙ ap (λ (f : DeskFault). ended.Fault f) (refused_left fault why)))
+  completes_or end (tried found) =
+      tried_left end (subst (λ (item : Item). TriedBy tells clock says far counts net (scene_of old item by at was before) (pass_of item) new closed before after slices end) (own_item found.item found.there) found.is)

@@ -1,5 +1,5 @@
 -- What `begin` leaves of an attempt.
-use Rattle.std.proofs.Common.{◌≡◌, ◌⊎◌, inl, inr, ℕ, Bool, true, false, IsTrue, List, [], ◌∷◌, ◌++◌, Some, Err, refl, sym, ◌∙◌, ap, subst, append_assoc}
+use Rattle.std.proofs.Common.{◌≡◌, ◌⊎◌, inl, inr, ◌≤◌, ℕ, Bool, true, false, IsTrue, List, [], ◌∷◌, ◌++◌, length, Some, Err, refl, sym, ◌∙◌, ap, subst, append_assoc}
 use Rattle.std.specs.Prelude.{IfSome}
 use Rattle.std.proofs.lemmas.List.{append-nil}
 use Rattle.dm_types.specs.Faults.{Rose}
@@ -10,6 +10,7 @@ use Rattle.dm_types.specs.declared.item.Item.{Item}
 use Rattle.dm_types.specs.declared.item.ItemId.{ItemId}
 use Rattle.dm_types.specs.declared.kinds.By.{By}
 use Rattle.dm_types.specs.declared.kinds.DiskKind.{DiskKind}
+use Rattle.dm_types.specs.declared.slices.Slice.{Slice}
 use Rattle.dm_disk_model.specs.Disk.{History as Clock}
 use Rattle.dm_edge.specs.Wire.{Closed}
 use Rattle.dm_edge.specs.declared.fault.NetFault.{NetFault}
@@ -40,6 +41,7 @@ use Rattle.dm_attempt.specs.Scene.{changed_all}
 use Rattle.dm_attempt.specs.Trace.{Broken, untold}
 use Rattle.dm_attempt.proofs.Goes.{goes_more}
 use Rattle.dm_attempt.proofs.Items.{found_id}
+use Rattle.dm_attempt.proofs.Rounds.{life_is}
 use Rattle.dm_fetch.specs.Starts.{BeginsLive, StartEnds, failed, not_begun, scene_of}
 use Rattle.dm_fetch.proofs.Begun.{begun_attempt, begun_lives, begun_runs, begun_there, none_ran}
 
@@ -73,6 +75,13 @@ module _ {D O : Type 0} (tells : Type 0) (clock : D → Clock) (says : O → Say
       });
       planned = none_planned closed before n;
     }
+
+    -- and no more slices are saved than may be
+    pub begins_few : (pass : Pass) → IsDesk tells clock new → BeginsLive tells clock says far counts old new by at pass item → length (changed_all (beginning item by at) item).slices ≤ 64
+    begins_few pass desk begins =
+        let live = begins [] (λ kind. 0) 0 in
+        subst (λ (cover : List Slice). length cover ≤ 64) live.runs.is.cover_is
+        (life_is tells clock new pass (IsTraced (scene_of old item by at [] (λ kind. 0)) (untold [] [] 0)) desk live.goes.went.broken_is live.runs).few
 
     -- the desk recorded why it ends at once
     pub over_at_once : (cause : Cause) → Recorded old new (beginning item by at ++ entries.Broke item.id (reason_of_cause cause) ∷ []) → (closed : List Closed) (before : NetFault → ℕ)

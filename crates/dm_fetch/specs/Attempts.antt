@@ -1,5 +1,5 @@
 -- One attempt: what it asked for, what it did at the desk, and how it ended, by one witness.
-use Rattle.std.specs.Prelude.{◌≡◌, ◌⊎◌, ℕ, List, [], Option, Some, None}
+use Rattle.std.specs.Prelude.{◌≡◌, ◌⊎◌, ◌≤◌, ℕ, List, [], length, Option, Some, None}
 use Rattle.dm_types.specs.declared.address.Address.{Address}
 use Rattle.dm_types.specs.declared.item.Item.{Item}
 use Rattle.dm_types.specs.declared.item.ItemId.{ItemId}
@@ -60,6 +60,7 @@ pub record IsSourceOf (item : Item) (source : Source) : Type 0 where
 pub record AsksNothing (trace : Trace) : Type 0 where
   pub led : trace.led ≡ []
   pub lost : trace.lost ≡ []
+  pub wish : trace.wish ≡ None
   pub told : trace.told ≡ None
   pub rounds : trace.rounds ≡ []
 
@@ -78,8 +79,10 @@ pub record AsksAnew {D O : Type 0} (tells : Type 0) (clock : D → Clock) (says 
 pub record AsksOn {D O : Type 0} (scene : Scene D O) (pass : Pass) (slices : ℕ) (P : Asking → List Round → Type 0) (trace : Trace) : Type 0 where
   pub source : Source
   pub is : IsSourceOf (begun_by scene) source
+  pub few : length (begun_by scene).slices ≤ 64
   pub led : trace.led ≡ []
   pub lost : trace.lost ≡ []
+  pub wish : trace.wish ≡ None
   pub told : trace.told ≡ None
   pub count : trace.count ≡ slices
   pub rounds : P (kept_asking pass source) trace.rounds

@@ -1,5 +1,6 @@
 -- An attempt by the user, and those that the item makes by itself behind it.
 use Rattle.std.specs.Prelude.{ℕ, suc, ◌≤◌, List, IsTrue, Option, Some, None}
+use Rattle.dm_types.specs.Faults.{NoneFell}
 use Rattle.dm_types.specs.declared.item.Item.{Item}
 use Rattle.dm_types.specs.declared.item.ItemId.{ItemId}
 use Rattle.dm_types.specs.declared.kinds.By.{By}
@@ -33,12 +34,12 @@ GoesOn desk id ended.Complete = ⊥
 GoesOn desk id (ended.Stopped reason) = MayGoOn desk id
 GoesOn desk id (ended.Fault fault) = ⊥
 
--- An attempt, and so many further ones by the item itself, as long as it goes on so.
+-- An attempt, and so many further ones by the item itself, as long as it goes on so. No count of the net fell over any of them.
 pub data Fetches {D O : Type 0} (tells : Type 0) (clock : D → Clock) (says : O → Says) (far : D → ℕ) (counts : D → DiskKind → ℕ) (net : Type 0) (id : ItemId) (slices at : ℕ) (new : View D O) (now : List Closed) (after : NetFault → ℕ) (end : Ended) : View D O → List Closed → (NetFault → ℕ) → By → ℕ → Type 0 where
-  once : (old : View D O) (was : List Closed) (before : NetFault → ℕ) (by : By) → Attempts tells clock says far counts net old new was now before after id by slices at end → (GoesOn new id end → ⊥)
+  once : (old : View D O) (was : List Closed) (before : NetFault → ℕ) (by : By) → Attempts tells clock says far counts net old new was now before after id by slices at end → NoneFell before after → (GoesOn new id end → ⊥)
       → Fetches tells clock says far counts net id slices at new now after end old was before by 0
   again : (old : View D O) (was : List Closed) (before : NetFault → ℕ) (by : By) (mid : View D O) (between : List Closed) (amid : NetFault → ℕ) (reason : Reason) (more : ℕ)
-      → Attempts tells clock says far counts net old mid was between before amid id by slices at (ended.Stopped reason) → MayGoOn mid id
+      → Attempts tells clock says far counts net old mid was between before amid id by slices at (ended.Stopped reason) → NoneFell before amid → MayGoOn mid id
       → Fetches tells clock says far counts net id slices at new now after end mid between amid Itself more
       → Fetches tells clock says far counts net id slices at new now after end old was before by (suc more)
 

@@ -13,7 +13,9 @@ use Rattle.dm_edge.specs.Part.{part_size}
 use Rattle.dm_edge.specs.Reply.{IsWhole}
 use Rattle.dm_edge.specs.Wire.{Closed}
 use Rattle.dm_ask.specs.Redirects.{most_redirects}
+use Rattle.dm_item.specs.Lawful.{History}
 use Rattle.dm_fetch.specs.Attempts.{IsStable}
+use Rattle.dm_fetch.specs.Known.{OfKnown}
 
 -- the text is that of the address that is read of it
 pub record HasAddress (text : List ℕ) : Type 0 where
@@ -53,9 +55,10 @@ IsRowOf [] all = Unit {0}
 IsRowOf (c ∷ row) [] = ⊥
 IsRowOf (c ∷ row) (other ∷ all) = ((c ≡ other) × IsRowOf row all) ⊎ IsRowOf (c ∷ row) all
 
--- The item's addresses are read as themselves, each whole request on these connections is served, and no more than ten of them are redirects.
-pub record ServesWhole (item : Item) (connections : List Closed) : Type 0 where
+-- The item's addresses are read as themselves, each whole request on these connections is served, and no more than ten of them are redirects. Of a range the total is the one
+-- that is known of the content, by the item or by an entry of the list.
+pub record ServesWhole (item : Item) (list : History) (connections : List Closed) : Type 0 where
   pub first : HasAddress item.first_address
   pub last : IfSome item.last_address HasAddress
-  pub each : (c : Closed) (wanted : Wanted) → Contains connections c → c.sent ≡ request_of c.purpose.address (ask_of wanted) → Serves wanted c.purpose.address c.stream
+  pub each : (c : Closed) (wanted : Wanted) → Contains connections c → OfKnown item list c.purpose.address.text wanted → c.sent ≡ request_of c.purpose.address (ask_of wanted) → Serves wanted c.purpose.address c.stream
   pub few : (row : List Closed) → IsRowOf row connections → AllByRecursion IsRedirection row → length row ≤ most_redirects

@@ -1,5 +1,5 @@
 -- How an attempt begins at a desk.
-use Rattle.std.specs.Prelude.{◌≡◌, ℕ, List, [], None, Some, Result, Ok, Err}
+use Rattle.std.specs.Prelude.{◌≡◌, ◌≤◌, ℕ, List, [], length, None, Some, Result, Ok, Err}
 use Rattle.dm_types.specs.declared.item.Item.{Item}
 use Rattle.dm_types.specs.declared.item.ItemId.{ItemId}
 use Rattle.dm_types.specs.declared.item.Key.TheVariants.{Strong}
@@ -35,8 +35,9 @@ abbrev pub BeginsLive : {D O : Type 0} → Type 0 → (D → Clock) → (O → S
 BeginsLive tells clock says far counts old new by at pass item =
     (closed : List Closed) (before : NetFault → ℕ) (n : ℕ) → LiveDesk tells clock says far counts (scene_of old item by at closed before) pass new (untold [] [] n)
 
--- what ranges are asked for by: a strong tag, a known total, and the last address
+-- what ranges are asked for by: a strong tag, a known total, and the last address; and as many slices at most as are saved
 pub record IsKept (item : Item) : Type 0 where
+  pub few : length item.slices ≤ 64
   pub tag : List ℕ
   pub key_is : item.key ≡ Some (Strong tag)
   pub total : ℕ

@@ -1,6 +1,8 @@
 ghost use Rattle.std.specs.Prelude.{◌≡◌, ◌≤◌, true, false};
 ghost use Rattle.dm_types.specs.Faults.{NoneFell};
 ghost use Rattle.dm_store.specs.Origin.{said_of};
+ghost use Rattle.dm_types.specs.declared.kinds.By.TheVariants as user;
+ghost use Rattle.dm_fetch.specs.Completes.{CompletesAtOnce, IsSmooth};
 ghost use Rattle.dm_fetch.specs.Fetches.{Fetched, GoesOn};
 
 use crate::attempt;
@@ -43,6 +45,8 @@ pub fn fetch<S: Desk, N: Net<O = S::O>>(
     requires origin { N.origin_of net.old ≡ (S.view desk.old).origin }
     ensures did { Fetched S.D.tells S.D.history (λ o. said_of (S.O.says o)) S.D.far S.D.faults N.tells (S.view desk.old) (S.view desk.new) (N.closed net.old) (N.closed net.new) (N.faults net.old) (N.faults net.new)
         id slices at result }
+    ensures completes { IsSmooth S.D.tells S.D.history (λ o. said_of (S.O.says o)) S.D.faults N.tells (S.view desk.old) (S.view desk.new) (N.closed net.old) (N.closed net.new) (N.faults net.old) (N.faults net.new) id user.User at
+        → CompletesAtOnce S.D.tells S.D.history (λ o. said_of (S.O.says o)) S.D.far S.D.faults N.tells (S.view desk.old) (S.view desk.new) (N.closed net.old) (N.closed net.new) (N.faults net.old) (N.faults net.new) id user.User slices at result }
     ensures later { NoneFell (N.faults net.old) (N.faults net.new) }
     ensures stays { N.origin_of net.new ≡ N.origin_of net.old }
 {

@@ -1,56 +1,38 @@
-//! A desk on an empty disk with one item that waits, and nets that say what they are told to.
+// One item that waits on a desk, nets that say what they are told to, and how it is brought from them.
 ghost use Rattle.std.specs.Prelude.{◌≡◌, ◌≢◌, [], ◌∷◌, All, IfOk};
-ghost use Rattle.dm_answers.specs.Add.{IsOrder};
 ghost use Rattle.dm_edge.specs.Script.{IsGood};
 
-use dm_answers::Order;
-use dm_disk::MemoryDisk;
-use dm_edge::{EveryByte, NetScript, WireScript, WireScripts};
-use dm_items::Desk;
-use dm_types::{Address, Limits, Listed, NoMemory, Text};
+use dm_attempt::Ended;
+use dm_edge::{NetScript, WireScript, WireScripts};
+use dm_fetch::{attempt, fetch};
+use dm_items_bench::{Call, MemoryDesk, Said, make, waiting};
+use dm_types::{By, ItemId, Listed, NoMemory, Text};
 use std::alloc::Global;
-use std::test::Fail;
 
-pub(crate) type MemoryDesk = Desk<MemoryDisk, EveryByte>;
+const ITEM: ItemId = ItemId(1);
 
-/// Small ones, so that few bytes make parts and want a checkpoint.
-const SMALL: Limits = Limits {
-    items: 4096,
-    checkpoint: 8,
-    piece: 64,
-    min_slice: 4,
-    journal: 16_777_216,
-};
-
-/// An order for `http://h/a`.
-fn order(alloc: Global) -> Result<Order, NoMemory>
-    ensures { IfOk result IsOrder }
-{
-    let address = Address {
-        text: Text::from_bytes(alloc, b"http://h/a")?,
-        host: Text::new(alloc),
-        port: 80,
-        target: Text::new(alloc),
-    };
-    Ok(Order {
-        word: Text::new(alloc),
-        address,
-        wish: Text::new(alloc),
-        digest: None,
-    })
+/// What the connections of a net say, how the item is brought, and what is done and looked at.
+pub(crate) struct Row {
+    pub streams: &'static [&'static [u8]],
+    pub slices: u32,
+    /// Which open connection is read next.
+    pub turns: &'static [u8],
+    pub steps: &'static [Step],
 }
 
-/// A desk on an empty disk, with item 1, which waits.
-pub(crate) fn desk(alloc: Global) -> Result<MemoryDesk, Fail> {
-    let disk = MemoryDisk::new(alloc, Listed::new(alloc), None)?;
-    let mut desk = match Desk::open(alloc, disk, EveryByte, SMALL, 0) {
-        Ok(desk) => desk,
-        Err(_) => return Err("not opened".into()),
-    };
-    match desk.add(order(alloc)?, 0) {
-        Ok(_) => Ok(desk),
-        Err(_) => Err("not added".into()),
-    }
+pub(crate) enum Step {
+    /// The item is fetched, as often as it goes on by itself, and ends so.
+    Fetch(Ended),
+    /// The same, and it doesn't complete.
+    FailsToFetch,
+    /// One attempt ends so.
+    Attempt(By, Ended),
+    /// The connection that was closed at this place was sent a request that ends so.
+    Sent(u64, &'static [u8]),
+    /// The item has a first slice of so many bytes, and so many slices.
+    Saved(u64, usize),
+    /// A call of the desk says this.
+    Looks(Call, Said),
 }
 
 fn script(alloc: Global, stream: &[u8]) -> Result<WireScript, NoMemory>
@@ -74,15 +56,77 @@ fn scripts(alloc: Global, streams: &[&[u8]]) -> Result<WireScripts, NoMemory>
 }
 
 /// A net whose connections say these streams.
-pub(crate) fn net(alloc: Global, streams: &[&[u8]]) -> Result<NetScript, NoMemory> {
-    let wires = scripts(alloc, streams)?;
-    NetScript::new(wires, Listed::new(alloc))
+fn net(alloc: Global, streams: &[&[u8]]) -> Option<NetScript> {
+    match scripts(alloc, streams) {
+        Ok(wires) => NetScript::new(wires, Listed::new(alloc)).ok(),
+        Err(NoMemory) => None,
+    }
 }
 
-/// Whether the connection that was closed at this place was sent a request that ends so.
-pub(crate) fn was_sent(net: &NetScript, place: u64, end: &[u8]) -> bool {
+fn was_sent(net: &NetScript, place: u64, end: &[u8]) -> bool {
     match net.closed(place) {
         Some(exchange) => exchange.sent.bytes().ends_with(end),
         None => false,
     }
+}
+
+fn has_saved(desk: &MemoryDesk, first: u64, count: usize) -> bool {
+    match desk.view(ITEM) {
+        Some(item) => match item.slices.items().first() {
+            Some(slice) => slice.got == first && item.slices.items().len() == count,
+            None => false,
+        },
+        None => false,
+    }
+}
+
+/// Brings the item: by one attempt of somebody, or as often as it goes on by itself.
+fn bring(
+    alloc: Global,
+    desk: &mut MemoryDesk,
+    net: &mut NetScript,
+    row: &Row,
+    by: Option<By>,
+) -> Option<Ended> {
+    if row.slices < 1 || row.slices > 16 {
+        return None;
+    }
+    let ended = match by {
+        Some(by) => attempt(alloc, desk, net, ITEM, by, row.slices, row.turns, 7),
+        None => fetch(alloc, desk, net, ITEM, row.slices, row.turns, 7),
+    };
+    Some(ended)
+}
+
+fn goes(alloc: Global, desk: &mut MemoryDesk, net: &mut NetScript, row: &Row, step: &Step) -> bool {
+    match step {
+        Step::Fetch(ended) => bring(alloc, desk, net, row, None) == Some(*ended),
+        Step::FailsToFetch => bring(alloc, desk, net, row, None) != Some(Ended::Complete),
+        Step::Attempt(by, ended) => bring(alloc, desk, net, row, Some(*by)) == Some(*ended),
+        Step::Sent(place, end) => was_sent(net, *place, end),
+        Step::Saved(first, count) => has_saved(desk, *first, *count),
+        Step::Looks(call, said) => make(alloc, desk, *call) == *said,
+    }
+}
+
+fn first_other(
+    alloc: Global,
+    desk: &mut MemoryDesk,
+    net: &mut NetScript,
+    row: &Row,
+) -> Option<usize> {
+    for (place, step) in row.steps.iter().enumerate() {
+        if !goes(alloc, desk, net, row, step) {
+            return Some(place);
+        }
+    }
+    None
+}
+
+/// The place of the first step of a row that goes otherwise.
+pub(crate) fn first_other_step(alloc: Global, row: &Row) -> Option<usize> {
+    let (Some(mut desk), Some(mut net)) = (waiting(alloc), net(alloc, row.streams)) else {
+        return Some(usize::MAX);
+    };
+    first_other(alloc, &mut desk, &mut net, row)
 }

@@ -11,7 +11,8 @@ mod part;
 mod whole;
 
 pub use laws::{more_bytes, one_outcome};
-pub use look::{Look, look_at};
+pub use lengths::{ToldLength, length_of};
+pub use look::{Look, begins_too_many, look_at};
 pub use metadata::Metadata;
 pub use part::Extent;
 

@@ -56,7 +56,7 @@ pub fn look_at(front: &[u8], wanted: &Wanted) -> Look
 
 /// Whether a field line begins that is one too many: the start line and the fields are the lines
 /// that aren't empty.
-fn begins_too_many(front: &[u8]) -> bool
+pub fn begins_too_many(front: &[u8]) -> bool
     ensures { result ≡ nat_lt (most_fields + 1) (lines_begun false front.now) }
 {
     let mut lines = 0;

@@ -2,19 +2,20 @@
 use Rattle.std.specs.List.{flat_map}
 use Rattle.std.proofs.Common.{◌≡◌, ◌≢◌, ℕ, ◌+◌, ◌-◌, ◌<◌, ◌≤◌, ◌⊎◌, inl, inr, List, [], ◌∷◌, ◌++◌, length, take, drop, map, refl, sym, ap, ◌∙◌, subst, arith, append_assoc, length-append, All}
 use Rattle.std.specs.Prelude.{slice_range}
-use Rattle.std.proofs.lemmas.List.{length-drop, length-map, length-take, take-append-le, take_at}
+use Rattle.std.proofs.lemmas.List.{append-nil, length-drop, length-map, length-take, take-append-le, take_at}
 use Rattle.httparse.specs.declared.Error.{Error}
 use Rattle.httparse.specs.declared.Error.TheVariants as error
 use Rattle.httparse.specs.declared.spans.Span.{Span}
 use Rattle.httparse.specs.declared.spans.HeaderSpan.{HeaderSpan}
 use Rattle.httparse.specs.declared.spans.RequestSpans.{RequestSpans}
-use Rattle.httparse.specs.Grammar.{HasNoRequest, NeverHasRequest, RequestHead, print_request}
+use Rattle.httparse.specs.Grammar.{EndsInTarget, HasNoRequest, NeverHasRequest, RequestHead, print_request}
 use Rattle.httparse.specs.Spans.{IsHeaderWithin, IsRequestAt, IsRequestWithin, IsWithin, RequestExceeds, header_bytes, name_and_value, span_bytes}
 use Rattle.httparse.proofs.GrammarLemmas.{ReadsRequest-append}
 use Rattle.form_urlencoded.specs.Form.{split_once}
 use Rattle.dm_edge.specs.Fields.{NameAndValue}
 use Rattle.dm_edge.specs.Head.{most_fields}
 use Rattle.dm_head.proofs.HeadLemmas.{take_past}
+use Rattle.dm_target.proofs.Fronts.{stays_outside}
 use Rattle.dm_call.specs.Asked.{kind_of}
 use Rattle.dm_call.specs.declared.request.ApiRequest.{ApiRequest}
 use Rattle.dm_hear.specs.Head.{BeginsRequest, HasManyLines, IsBadHead, IsHeadLong, IsOpen, many, most_request, never}
@@ -22,7 +23,7 @@ use Rattle.dm_hear.specs.Content.{HasLength, HasNoLength, fields_of}
 use Rattle.dm_hear.specs.Heard.{HasBadLength, HasSized, IsContentCut, IsContentLong, IsRequest, request_of}
 use Rattle.dm_hear.specs.Held.{ArePartsWithin, HasWhole, request_at}
 use Rattle.dm_hear.specs.declared.judge.Parts.{Parts}
-use Rattle.dm_hear.proofs.ManyLines.{exceeds_many}
+use Rattle.dm_hear.proofs.ManyLines.{exceeds_many, few_inside}
 
 -- what begins with a head does so whatever follows
 begins_more : {stream rest : List ℕ} {head : RequestHead} → BeginsRequest stream head rest → (more : List ℕ)
@@ -99,14 +100,31 @@ too_many_or_not error.Token = inr (λ e. cc)
 too_many_or_not error.TooManyHeaders = inl refl
 too_many_or_not error.Version = inr (λ e. cc)
 
--- what an error of the parser says
+-- what an error of the parser says outside a target
 pub refused_bad : (front : List ℕ) → length front ≤ most_request → (e : Error)
     → (e ≢ error.TooManyHeaders → NeverHasRequest front)
     → (e ≡ error.TooManyHeaders → RequestExceeds most_fields front)
+    → (EndsInTarget front → ⊥)
     → (more : List ℕ) → IsBadHead (front ++ more)
-refused_bad front small e none exceeds more = elim (too_many_or_not e) [
+refused_bad front small e none exceeds outside more = elim (too_many_or_not e) [
   | inl is ↦ many_bad front small (exceeds_many (exceeds is)) more
-  | inr other ↦ never (never_more front small (none other) more)
+  | inr other ↦
+      never (never_more front small (none other) more)
+      (λ is. stays_outside front (take (most_request - length front) more) (none other) outside (subst EndsInTarget (take_past most_request front more small) is))
+]
+
+-- what an error says inside one
+pub refused_open : (front : List ℕ) → (e : Error)
+    → (e ≢ error.TooManyHeaders → NeverHasRequest front)
+    → (e ≡ error.TooManyHeaders → RequestExceeds most_fields front)
+    → EndsInTarget front → IsOpen front
+refused_open front e none exceeds inside = elim (too_many_or_not e) [
+  | inl is ↦ absurd (few_inside front inside (exceeds_many (exceeds is)))
+  | inr other ↦ record {
+    none = subst HasNoRequest (append-nil front) (none other []);
+    open_head = inr inside;
+    few = few_inside front inside;
+  }
 ]
 
 -- as many bytes as a request may have hold no whole head

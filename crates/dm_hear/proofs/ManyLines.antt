@@ -146,3 +146,7 @@ begun_if_many front m =
     let first = passes m.lines (m.next ∷ []) passed (first_in_line m.next m.in_line) in
     let all : front ≡ (m.lines ++ m.next ∷ []) ++ m.rest = m.is ∙ sym (append_assoc m.lines (m.next ∷ []) m.rest) in
     omega (arith, ap (lines_begun false) all, begun-append false (m.lines ++ m.next ∷ []) m.rest, first.begun, m.count)
+
+-- inside a target no line is one too many
+pub few_inside : (front : List ℕ) → EndsInTarget front → HasManyLines front → ⊥
+few_inside front inside many = omega (arith, one_begun front inside, begun_if_many front many)

@@ -1,6 +1,6 @@
 -- The head of a request at the front of a stream, or what stands there in its place (RFC 9112, sections 2 to 5).
 use Rattle.std.specs.Prelude.{◌≡◌, ℕ, ◌<◌, ◌≤◌, List, [], ◌∷◌, ◌++◌, length, take}
-use Rattle.httparse.specs.Grammar.{lf, print_end, RequestHead, print_request, ReadsRequest, HasNoRequest, NeverHasRequest, MayBecomeRequest}
+use Rattle.httparse.specs.Grammar.{lf, print_end, RequestHead, print_request, ReadsRequest, EndsInTarget, HasNoRequest, NeverHasRequest, MayBecomeRequest}
 use Rattle.dm_edge.specs.Head.{IsInLine, most_fields}
 
 -- the most bytes of a request, its head and its content together
@@ -27,8 +27,8 @@ pub record HasManyLines (text : List ℕ) : Type 0 where
 
 -- No head stands at the front, and none can come.
 pub data IsBadHead (stream : List ℕ) : Type 0 where
-  -- the bytes can't begin a head
-  never : NeverHasRequest (take most_request stream) → IsBadHead stream
+  -- the bytes can't begin a head, and don't end inside a request target, which is looked at where it ends
+  never : NeverHasRequest (take most_request stream) → (EndsInTarget (take most_request stream) → ⊥) → IsBadHead stream
   -- one more field begins than a head may have
   many : HasManyLines (take most_request stream) → IsBadHead stream
 

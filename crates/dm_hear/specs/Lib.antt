@@ -2,5 +2,4 @@ pub mod Head
 pub mod Content
 pub mod Heard
 pub mod Held
-pub mod Lengths
 pub mod Written

@@ -1,13 +1,13 @@
 //! What the bytes that came so far are.
-ghost use Rattle.std.specs.Prelude.{◌≡◌, ◌+◌, ◌≤◌, false, length, nat_lt};
-ghost use Rattle.dm_edge.specs.Head.{most_fields};
-ghost use Rattle.dm_head.specs.Lines.{lines_begun};
-ghost use Rattle.dm_hear.specs.Head.{most_request};
+ghost use Rattle.std.specs.Prelude.{◌≤◌, length};
+ghost use Rattle.dm_hear.specs.Head.{IsOpen, most_request};
 ghost use Rattle.dm_hear.specs.Held.{HasWhole, Judges};
 
 use crate::fault::{ApiFault, Rule};
 use crate::length::content_length;
 use dm_edge::MOST_FIELDS;
+use dm_head::begins_too_many;
+use dm_target::ends_in_target;
 use httparse::Status;
 use httparse::spans::{EMPTY_HEADER_SPAN, HeaderSpan, RequestSpans, Span, parse_request};
 
@@ -43,10 +43,22 @@ pub(crate) fn judge(front: &[u8]) -> Judged
         Ok(Status::Partial) if begins_too_many(front) => Judged::Refused(ApiFault::Rule(
             Rule::Head,
         )),
-        Ok(Status::Partial) if front.len() == MOST_REQUEST => Judged::Refused(ApiFault::TooLarge),
-        Ok(Status::Partial) => Judged::More,
+        Ok(Status::Partial) => judge_open(front),
+        Err(_) if ends_in_target(front) => judge_open(front),
         Err(_) => Judged::Refused(ApiFault::Rule(Rule::Head)),
     }
+}
+
+/// The same where no whole head stands there, and one may come.
+fn judge_open(front: &[u8]) -> Judged
+    requires front { length front.now ≤ most_request }
+    requires open_head { IsOpen front.now }
+    ensures { Judges front.now result }
+{
+    if front.len() == MOST_REQUEST {
+        return Judged::Refused(ApiFault::TooLarge);
+    }
+    Judged::More
 }
 
 /// The same where a whole head stands there.
@@ -70,26 +82,4 @@ fn judge_whole(front: &[u8], head: &RequestSpans, fields: &[HeaderSpan]) -> Judg
         }),
         None => Judged::Refused(ApiFault::Rule(Rule::Length)),
     }
-}
-
-/// Whether a field line begins that is one too many: the start line and the fields are the lines
-/// that aren't empty.
-fn begins_too_many(front: &[u8]) -> bool
-    ensures { result ≡ nat_lt (most_fields + 1) (lines_begun false front.now) }
-{
-    let mut lines = 0;
-    let mut in_line = false;
-    for byte in front {
-        match *byte {
-            b'\n' => in_line = false,
-            b'\r' => {}
-            _ => {
-                if !in_line {
-                    lines += 1;
-                }
-                in_line = true;
-            }
-        }
-    }
-    lines > MOST_FIELDS + 1
 }

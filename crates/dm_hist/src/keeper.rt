@@ -52,6 +52,10 @@ pub trait Keeper {
     /// How often a call failed.
     ghost faults: { Self → Fault → ℕ };
 
+    /// Does nothing. Its clause says that the ids of the rows rise also before a first call.
+    fn rows_rise(&self)
+        ensures rising { tells → AreRows (rows self.now) };
+
     /// Keeps a row, in place of the row of the same id where there is one.
     fn put_row(&mut self, row: &Row) -> Result<(), KeeperFault>
         requires id { 1 ≤ row.now.id.0 }

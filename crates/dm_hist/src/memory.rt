@@ -70,6 +70,12 @@ impl Keeper for MemoryKeeper {
 
     ghost faults = { λ k. keeper_count k.calls.failed };
 
+    fn rows_rise(&self)
+        ensures rising { AreRows self.now.rows }
+    {
+        let _rows = &self.rows;
+    }
+
     fn put_row(&mut self, row: &Row) -> Result<(), KeeperFault>
         requires id { 1 ≤ row.now.id.0 }
         requires total { IfSome row.now.total (λ total. total ≤ 2 ^ 40) }

@@ -170,6 +170,8 @@ impl<S: Alter + Drop> Keeper for SqlKeeper<S> {
 
     ghost faults = { λ k. keeper_count k.failed };
 
+    fn rows_rise(&self) {}
+
     fn put_row(&mut self, row: &Row) -> Result<(), KeeperFault> {
         let answer = put(&mut self.conn, row);
         self.told(answer)

@@ -78,55 +78,49 @@ fn keeps_rows<K: Keeper>(alloc: Global, keeper: &mut K) -> Result<bool, KeeperFa
     Ok(puts_over(alloc, keeper)? && drops_rows(keeper)?)
 }
 
-#[test]
-fn rows_are_kept_in_memory(rt: HostRuntime) -> Result<(), Fail> {
-    let mut keeper = MemoryKeeper::new(rt.alloc(), &[])?;
-    assert!(rt; keeps_rows(rt.alloc(), &mut keeper)?);
-    assert_eq!(rt; keeper.failed(), 0);
-    Ok(())
+/// What is looked for at a keeper.
+#[derive(Clone, Copy)]
+enum Look {
+    /// The rows are put, found, paged, put over and dropped.
+    Rows,
+    /// Those that are left of them are found again.
+    Left,
+    /// So many rows are put, and some of them are found.
+    Many(u32),
 }
 
-#[test]
-fn rows_are_kept_by_sqlite(rt: HostRuntime) -> Result<(), Fail> {
-    let mut keeper = SqlKeeper::open_in_memory(rt.alloc())?;
-    assert!(rt; keeps_rows(rt.alloc(), &mut keeper)?);
-    Ok(())
+fn looked<K: Keeper>(alloc: Global, keeper: &mut K, look: Look) -> Result<bool, KeeperFault> {
+    match look {
+        Look::Rows => keeps_rows(alloc, keeper),
+        Look::Left => Ok(is_left(keeper)? && has(alloc, keeper, (9, b"w", true))?),
+        Look::Many(count) => keeps_many(alloc, keeper, count),
+    }
 }
 
-/// Whether the rows are kept in a file, and found there again.
-fn keeps_in_file(rt: &HostRuntime, alloc: Global, path: &str) -> Result<bool, KeeperFault> {
-    let mut keeper = SqlKeeper::open(alloc, rt, path)?;
-    keeps_rows(alloc, &mut keeper)
+/// Whether a keeper that was opened shows each of these. It is let go here, where its type isn't known: to
+/// prove that a keeper over SQLite is let go takes minutes.
+fn shows<K: Keeper + Drop>(
+    alloc: Global,
+    opened: Result<K, KeeperFault>,
+    looks: &[Look],
+) -> Result<bool, KeeperFault> {
+    match opened {
+        Ok(mut keeper) => shows_each(alloc, &mut keeper, looks),
+        Err(fault) => Err(fault),
+    }
 }
 
-fn is_found_again(rt: &HostRuntime, alloc: Global, path: &str) -> Result<bool, KeeperFault> {
-    let mut keeper = SqlKeeper::open(alloc, rt, path)?;
-    Ok(is_left(&mut keeper)? && has(alloc, &mut keeper, (9, b"w", true))?)
-}
-
-#[test]
-fn rows_stay_in_a_file(rt: HostRuntime) -> Result<(), Fail> {
-    let _ = fs::remove_dir_all(&rt, "dm_hist_file");
-    fs::create_dir(&rt, "dm_hist_file")?;
-    assert!(rt; keeps_in_file(&rt, rt.alloc(), "dm_hist_file/history.sqlite")?);
-    assert!(rt; is_found_again(&rt, rt.alloc(), "dm_hist_file/history.sqlite")?);
-    fs::remove_dir_all(&rt, "dm_hist_file")?;
-    Ok(())
-}
-
-#[test]
-fn a_file_that_is_no_database_is_refused(rt: HostRuntime) -> Result<(), Fail> {
-    let _ = fs::remove_dir_all(&rt, "dm_hist_bad");
-    fs::create_dir(&rt, "dm_hist_bad")?;
-    fs::write(
-        &rt,
-        "dm_hist_bad/history.sqlite",
-        b"no database, but a text of some length",
-    )?;
-    let opened = SqlKeeper::open(rt.alloc(), &rt, "dm_hist_bad/history.sqlite");
-    assert!(rt; opened.is_err());
-    fs::remove_dir_all(&rt, "dm_hist_bad")?;
-    Ok(())
+fn shows_each<K: Keeper>(
+    alloc: Global,
+    keeper: &mut K,
+    looks: &[Look],
+) -> Result<bool, KeeperFault> {
+    for look in looks {
+        if !looked(alloc, keeper, *look)? {
+            return Ok(false);
+        }
+    }
+    Ok(true)
 }
 
 /// Whether a page is found and a word among so many rows, of which each other one is complete.
@@ -139,16 +133,45 @@ fn keeps_many<K: Keeper>(alloc: Global, keeper: &mut K, count: u32) -> Result<bo
 }
 
 #[test]
-fn a_hundred_thousand_rows_in_memory(rt: HostRuntime) -> Result<(), Fail> {
+fn rows_are_kept_in_memory(rt: HostRuntime) -> Result<(), Fail> {
     let mut keeper = MemoryKeeper::new(rt.alloc(), &[])?;
-    assert!(rt; keeps_many(rt.alloc(), &mut keeper, 100_000)?);
+    let looks = [Look::Rows, Look::Many(100_000)];
+    assert!(rt; shows_each(rt.alloc(), &mut keeper, &looks)?);
+    assert_eq!(rt; keeper.failed(), 0);
     Ok(())
 }
 
 #[test]
-fn ten_thousand_rows_in_sqlite(rt: HostRuntime) -> Result<(), Fail> {
-    let mut keeper = SqlKeeper::open_in_memory(rt.alloc())?;
-    assert!(rt; keeps_many(rt.alloc(), &mut keeper, 10_000)?);
+fn rows_are_kept_by_sqlite(rt: HostRuntime) -> Result<(), Fail> {
+    let opened = SqlKeeper::open_in_memory(rt.alloc());
+    assert!(rt; shows(rt.alloc(), opened, &[Look::Rows, Look::Many(10_000)])?);
+    Ok(())
+}
+
+/// What a keeper over this file shows.
+fn shows_file(rt: &HostRuntime, path: &str, looks: &[Look]) -> Result<bool, KeeperFault> {
+    shows(rt.alloc(), SqlKeeper::open(rt.alloc(), rt, path), looks)
+}
+
+#[test]
+fn rows_stay_in_a_file(rt: HostRuntime) -> Result<(), Fail> {
+    let _ = fs::remove_dir_all(&rt, "dm_hist_file");
+    fs::create_dir(&rt, "dm_hist_file")?;
+    let path = "dm_hist_file/history.sqlite";
+    assert!(rt; shows_file(&rt, path, &[Look::Rows])?);
+    assert!(rt; shows_file(&rt, path, &[Look::Left])?);
+    fs::remove_dir_all(&rt, "dm_hist_file")?;
+    Ok(())
+}
+
+#[test]
+fn a_file_that_is_no_database_is_refused(rt: HostRuntime) -> Result<(), Fail> {
+    let _ = fs::remove_dir_all(&rt, "dm_hist_bad");
+    fs::create_dir(&rt, "dm_hist_bad")?;
+    let path = "dm_hist_bad/history.sqlite";
+    fs::write(&rt, path, b"no database, but a text of some length")?;
+    assert!(rt; shows_file(&rt, path, &[]).is_err());
+    fs::remove_dir_all(&rt, "dm_hist_bad")?;
     Ok(())
 }
 

@@ -30,6 +30,7 @@ impl<D: Disk, O: Origin> Desk<D, O> {
     ghost use Rattle.std.specs.Option.{option_copied};
     ghost use Rattle.dm_item.specs.Listing.{item_in};
     ghost use Rattle.dm_item.specs.Row.{mode_of_item};
+    ghost use Rattle.dm_store.specs.Keeps.{IsDesk};
     ghost use Rattle.dm_change.specs.Due.{first_due};
     ghost use Rattle.dm_change.specs.Page.{page_of};
 
@@ -42,7 +43,8 @@ impl<D: Disk, O: Origin> Desk<D, O> {
 
     /// The items, by rising id.
     pub fn items(&self) -> &Items
-        ensures { result.now ≡ self.now.items }
+        ensures items { result.now ≡ self.now.items }
+        ensures kept { IsDesk D.tells D.history self.now }
     {
         &self.store.items
     }

@@ -1,23 +1,14 @@
 // What calls answer over disks that fail once or hold other files, and at a full list.
-use crate::bench::{MemoryDesk, disk, files, has, open, put};
-use crate::calls::{Call, Said, first_other};
-use crate::passes::{
-    AGAIN, ANEW, ASKED, FIRST, LEFT_HALF, ON, OTHER, OTHER_PART, PART, REST, RIGHT_HALF, TOLD,
-    played,
-};
-use dm_disk::{FailingCall, MemoryDisk};
+use dm_disk::FailingCall;
 use dm_items::{Begun, DeskFault, Finished, Named, Taken};
-use dm_types::{Attempt, By, DiskKind, ItemId, Mode, NoMemory, Phase, Reason};
-use std::alloc::Global;
-use std::test::Fail;
+use dm_items_bench::{
+    AGAIN, ANEW, ASKED, Call, FIRST, Given, LEFT_HALF, Left, ON, OTHER, OTHER_PART, Opening, PART,
+    Played, REST, RIGHT_HALF, Said, TOLD, play,
+};
+use dm_types::{Attempt, By, DiskKind, ItemId, Mode, Phase, Reason};
 
-/// Calls at a disk: first it gets files, and then the calls say this and leave that.
-struct Row {
-    before: &'static [(&'static [u8], &'static [u8])],
-    failing: Option<FailingCall>,
-    groups: &'static [&'static [(Call, Said)]],
-    behind: &'static [(&'static [u8], Option<&'static [u8]>)],
-}
+/// Which call of the disk fails, and what is called and left over it.
+type Row = (Option<FailingCall>, Opening);
 
 const NO_SPACE: [(Call, Said); 11] = [
     (
@@ -168,128 +159,7 @@ const FOUND_SAVED: [(Call, Said); 5] = [
     (Call::Land(REST, 5, b" world"), Said::Done),
 ];
 
-// Opening makes 15 calls of the disk, adding and beginning four each, describing eight, landing one, and
-// a checkpoint five, of which the first syncs the part.
-const ROWS: [Row; 9] = [
-    Row {
-        before: &[],
-        failing: Some(FailingCall {
-            call: 31,
-            kind: DiskKind::NoSpace,
-        }),
-        groups: &[&ASKED, &TOLD, &NO_SPACE],
-        behind: &[(b"hello.txt", Some(b"hello world"))],
-    },
-    Row {
-        before: &[(b"Report.PDF", b"theirs")],
-        failing: None,
-        groups: &[&ASKED, &REPORT],
-        behind: &[(b"Report.PDF", Some(b"theirs")), (b"report (1).pdf", None)],
-    },
-    Row {
-        before: &[],
-        failing: None,
-        groups: &[&ASKED, &CANCELLED],
-        behind: &[(b"Unconfirmed 1-1.crdownload", Some(b"hello"))],
-    },
-    Row {
-        before: &[],
-        failing: None,
-        groups: &[&ASKED, &TOLD, &TWO],
-        behind: &[
-            (b"hello.txt", Some(b"hello world")),
-            (b"HELLO (1).txt", None),
-            (b"Unconfirmed 2-1.crdownload", Some(b"HELLO W")),
-        ],
-    },
-    Row {
-        before: &[],
-        failing: None,
-        groups: &[&ASKED, &TOLD, &REMOVED],
-        behind: &[(b"Unconfirmed 1-1.crdownload", None)],
-    },
-    Row {
-        before: &[],
-        failing: None,
-        groups: &[&ASKED, &TOLD, &ARCHIVED],
-        behind: &[(b"hello.txt", Some(b"hello world"))],
-    },
-    Row {
-        before: &[
-            (b"Unconfirmed 1-7.crdownload", b"of an older epoch"),
-            (b"Unconfirmed 2-1.crdownload", b"of no item yet"),
-            (b"unconfirmed 1-7.crdownload", b"theirs"),
-        ],
-        failing: None,
-        groups: &[&ASKED, &TOLD, &SWEPT],
-        behind: &[
-            (b"Unconfirmed 1-7.crdownload", None),
-            (b"Unconfirmed 2-1.crdownload", Some(b"of no item yet")),
-            (b"unconfirmed 1-7.crdownload", Some(b"theirs")),
-            (b"Unconfirmed 1-1.crdownload", Some(b"")),
-        ],
-    },
-    Row {
-        before: &[],
-        failing: Some(FailingCall {
-            call: 35,
-            kind: DiskKind::Denied,
-        }),
-        groups: &[&ASKED, &TOLD, &BROKEN, &FOUND_UNSAVED],
-        behind: &[(b"Unconfirmed 1-1.crdownload", Some(b"hello"))],
-    },
-    Row {
-        before: &[],
-        failing: Some(FailingCall {
-            call: 36,
-            kind: DiskKind::Denied,
-        }),
-        groups: &[&ASKED, &TOLD, &BROKEN, &FOUND_SAVED],
-        behind: &[(b"Unconfirmed 1-1.crdownload", Some(b"hello world"))],
-    },
-];
-
-/// A disk with files, of which a call fails.
-fn laid(alloc: Global, row: &Row) -> Result<MemoryDisk, Fail> {
-    let mut there = disk(alloc, None, None)?;
-    for (name, bytes) in row.before {
-        put(alloc, &mut there, name, Some(*bytes))?;
-    }
-    Ok(there)
-}
-
-/// The first file that a row leaves otherwise.
-fn first_other_file(
-    alloc: Global,
-    disk: &mut MemoryDisk,
-    files: &[(&[u8], Option<&[u8]>)],
-) -> Result<Option<usize>, Fail> {
-    for (place, (name, bytes)) in files.iter().enumerate() {
-        if !has(alloc, disk, name, *bytes)? {
-            return Ok(Some(place));
-        }
-    }
-    Ok(None)
-}
-
-#[test]
-fn disks_that_fail_or_hold_files(rt: HostRuntime) -> Result<(), Fail> {
-    let alloc = rt.alloc();
-    for (place, row) in ROWS.iter().enumerate() {
-        let there = match row.failing {
-            Some(_) => disk(alloc, row.failing, None)?,
-            None => laid(alloc, row)?,
-        };
-        let (other, mut left) = played(alloc, there, row.groups)?;
-        assert_eq!(rt; other, None, "in {place}");
-        let file = first_other_file(alloc, &mut left, row.behind)?;
-        assert_eq!(rt; file, None, "of {place}");
-    }
-    Ok(())
-}
-
-// ---- names that are all taken
-
+/// All forms of the wished name are taken.
 const TAKEN: [(Call, Said); 3] = [
     (
         Call::Tagged(FIRST, Some(11), b"report.pdf"),
@@ -302,71 +172,161 @@ const TAKEN: [(Call, Said); 3] = [
     (Call::Mode(1), Said::Mode(Some(Mode::UserRestart))),
 ];
 
-/// A disk with `Report.PDF` and its forms up to (100).
-fn crowded(alloc: Global) -> Result<MemoryDisk, Fail> {
-    let mut there = disk(alloc, None, None)?;
-    put(alloc, &mut there, b"Report.PDF", Some(b""))?;
-    for number in 1..101u32 {
-        let name = format!(in alloc; "report ({number}).pdf")?;
-        put(alloc, &mut there, name.as_bytes(), Some(b""))?;
-    }
-    Ok(there)
-}
-
-#[test]
-fn a_wish_whose_forms_are_taken_is_refused(rt: HostRuntime) -> Result<(), Fail> {
-    let alloc = rt.alloc();
-    let (other, mut left) = played(alloc, crowded(alloc)?, &[&ASKED, &TAKEN])?;
-    assert_eq!(rt; other, None);
-    assert_eq!(rt; files(alloc, &mut left), 101);
-    Ok(())
-}
-
-// ---- as many items as a list takes
-
-const FULL: [(Call, Said); 3] = [
+/// As many items as a list takes.
+const FULL: [(Call, Said); 4] = [
+    (Call::AddMany(4096), Said::Done),
     (Call::Add(b""), Said::No(DeskFault::ItemsFull(4096))),
     (Call::Cancel(4096), Said::Done),
     (Call::View(4096), Said::Is(Phase::Cancelled, 0)),
 ];
 
-#[test]
-fn a_desk_takes_4096_items(rt: HostRuntime) -> Result<(), Fail> {
-    let alloc = rt.alloc();
-    let Ok(mut desk) = open(alloc, disk(alloc, None, None)?) else {
-        return Err("not opened".into());
-    };
-    for id in 1..4097u32 {
-        let taken = Said::Taken(Taken::New(ItemId(id)));
-        let other = first_other(alloc, &mut desk, &[(Call::Add(b""), taken)]);
-        assert_eq!(rt; other, None);
-    }
-    assert_eq!(rt; first_other(alloc, &mut desk, &FULL), None);
-    Ok(())
-}
+const AS_MANY: Opening = Opening {
+    given: &[],
+    groups: &[&FULL],
+    left: &[],
+};
 
-/// Whether these are the ids above a number, at most so many.
-fn lists(desk: &MemoryDesk, after: u32, limit: u32, ids: &[ItemId]) -> Result<bool, NoMemory> {
-    let page = desk.page(after, limit)?;
-    Ok(page.items() == ids)
-}
-
-const THREE: [(Call, Said); 4] = [
+/// A word names one item, the empty word none.
+const THREE: [(Call, Said); 7] = [
     (Call::Add(b"w1"), Said::Taken(Taken::New(ItemId(1)))),
     (Call::Add(b"w1"), Said::Taken(Taken::Same(ItemId(1)))),
     (Call::Add(b""), Said::Taken(Taken::New(ItemId(2)))),
     (Call::Add(b""), Said::Taken(Taken::New(ItemId(3)))),
+    (
+        Call::Lists(0, 50, &[ItemId(1), ItemId(2), ItemId(3)]),
+        Said::Holds(true),
+    ),
+    (Call::Lists(1, 1, &[ItemId(2)]), Said::Holds(true)),
+    (Call::Lists(3, 50, &[]), Said::Holds(true)),
+];
+
+// Opening makes 15 calls of the disk, adding and beginning four each, describing eight, landing one, and
+// a checkpoint five, of which the first syncs the part.
+const ROWS: [Row; 11] = [
+    (
+        Some(FailingCall {
+            call: 31,
+            kind: DiskKind::NoSpace,
+        }),
+        Opening {
+            given: &[],
+            groups: &[&ASKED, &TOLD, &NO_SPACE],
+            left: &[Left::File(b"hello.txt", Some(b"hello world"))],
+        },
+    ),
+    (
+        None,
+        Opening {
+            given: &[Given::File(b"Report.PDF", Some(b"theirs"))],
+            groups: &[&ASKED, &REPORT],
+            left: &[
+                Left::File(b"Report.PDF", Some(b"theirs")),
+                Left::File(b"report (1).pdf", None),
+            ],
+        },
+    ),
+    (
+        None,
+        Opening {
+            given: &[],
+            groups: &[&ASKED, &CANCELLED],
+            left: &[Left::File(b"Unconfirmed 1-1.crdownload", Some(b"hello"))],
+        },
+    ),
+    (
+        None,
+        Opening {
+            given: &[],
+            groups: &[&ASKED, &TOLD, &TWO],
+            left: &[
+                Left::File(b"hello.txt", Some(b"hello world")),
+                Left::File(b"HELLO (1).txt", None),
+                Left::File(b"Unconfirmed 2-1.crdownload", Some(b"HELLO W")),
+            ],
+        },
+    ),
+    (
+        None,
+        Opening {
+            given: &[],
+            groups: &[&ASKED, &TOLD, &REMOVED],
+            left: &[Left::File(b"Unconfirmed 1-1.crdownload", None)],
+        },
+    ),
+    (
+        None,
+        Opening {
+            given: &[],
+            groups: &[&ASKED, &TOLD, &ARCHIVED],
+            left: &[Left::File(b"hello.txt", Some(b"hello world"))],
+        },
+    ),
+    (
+        None,
+        Opening {
+            given: &[
+                Given::File(b"Unconfirmed 1-7.crdownload", Some(b"of an older epoch")),
+                Given::File(b"Unconfirmed 2-1.crdownload", Some(b"of no item yet")),
+                Given::File(b"unconfirmed 1-7.crdownload", Some(b"theirs")),
+            ],
+            groups: &[&ASKED, &TOLD, &SWEPT],
+            left: &[
+                Left::File(b"Unconfirmed 1-7.crdownload", None),
+                Left::File(b"Unconfirmed 2-1.crdownload", Some(b"of no item yet")),
+                Left::File(b"unconfirmed 1-7.crdownload", Some(b"theirs")),
+                Left::File(b"Unconfirmed 1-1.crdownload", Some(b"")),
+            ],
+        },
+    ),
+    (
+        Some(FailingCall {
+            call: 35,
+            kind: DiskKind::Denied,
+        }),
+        Opening {
+            given: &[],
+            groups: &[&ASKED, &TOLD, &BROKEN, &FOUND_UNSAVED],
+            left: &[Left::File(b"Unconfirmed 1-1.crdownload", Some(b"hello"))],
+        },
+    ),
+    (
+        Some(FailingCall {
+            call: 36,
+            kind: DiskKind::Denied,
+        }),
+        Opening {
+            given: &[],
+            groups: &[&ASKED, &TOLD, &BROKEN, &FOUND_SAVED],
+            left: &[Left::File(b"Unconfirmed 1-1.crdownload", Some(b"hello world"))],
+        },
+    ),
+    (
+        None,
+        Opening {
+            given: &[Given::Forms],
+            groups: &[&ASKED, &TAKEN],
+            left: &[Left::Files(101)],
+        },
+    ),
+    (
+        None,
+        Opening {
+            given: &[],
+            groups: &[&THREE],
+            left: &[],
+        },
+    ),
 ];
 
 #[test]
-fn ids_are_listed_by_pages(rt: HostRuntime) -> Result<(), Fail> {
-    let alloc = rt.alloc();
-    let Ok(mut desk) = open(alloc, disk(alloc, None, None)?) else {
-        return Err("not opened".into());
-    };
-    assert_eq!(rt; first_other(alloc, &mut desk, &THREE), None);
-    assert!(rt; lists(&desk, 0, 50, &[ItemId(1), ItemId(2), ItemId(3)])?);
-    assert!(rt; lists(&desk, 1, 1, &[ItemId(2)])?);
-    assert!(rt; lists(&desk, 3, 50, &[])?);
-    Ok(())
+fn disks_that_fail_or_hold_files(rt: HostRuntime) {
+    for (place, (failing, opening)) in ROWS.iter().enumerate() {
+        let played = play(rt.alloc(), *failing, opening);
+        assert_eq!(rt; played, Played::AsSaid, "in {place}");
+    }
+}
+
+#[test]
+fn a_desk_takes_4096_items(rt: HostRuntime) {
+    assert_eq!(rt; play(rt.alloc(), None, &AS_MANY), Played::AsSaid);
 }

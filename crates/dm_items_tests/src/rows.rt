@@ -1,13 +1,10 @@
 // What calls answer, one after another, at items that are brought in one opening.
-use crate::bench::{MemoryDesk, disk, files, first_other_body, has, open};
-use crate::calls::{Call, Said, first_other};
-use crate::passes::{
-    AGAIN, ANEW, ASKED, FIRST, LEFT_HALF, ON, PART, REST, RIGHT_HALF, THIRD, TOLD, played,
-};
 use dm_items::{Begun, DeskFault, Finished, Named, Pass, SlicePass, Taken};
+use dm_items_bench::{
+    AGAIN, ANEW, ASKED, Call, FIRST, LEFT_HALF, Left, ON, Opening, PART, Played, REST, RIGHT_HALF,
+    Said, THIRD, TOLD, play,
+};
 use dm_types::{Attempt, By, Epoch, ItemId, Mode, Phase, Reason};
-use std::alloc::Global;
-use std::test::Fail;
 
 const BROUGHT: [(Call, Said); 6] = [
     (Call::Land(PART, 0, b"hello"), Said::Done),
@@ -36,18 +33,16 @@ const BODIES: [&[u8]; 8] = [
     b"\x0a\0\0\0\x01\xb9\x4d\x27\xb9\x93\x4d\x3e\x08\xa5\x2e\x52\xd7\xda\x7d\xab\xfa\xc4\x84\xef\xe3\x7a\x53\x80\xee\x90\x88\xf7\xac\xe2\xef\xcd\xe9\0\0\0\0\0\0\0\0",
 ];
 
-#[test]
-fn a_whole_download_records_its_entries(rt: HostRuntime) -> Result<(), Fail> {
-    let alloc = rt.alloc();
-    let (other, mut there) = played(alloc, disk(alloc, None, None)?, &[&ASKED, &TOLD, &BROUGHT])?;
-    assert_eq!(rt; other, None);
-    assert_eq!(rt; first_other_body(alloc, &mut there, &BODIES), None);
-    assert!(rt; has(alloc, &mut there, b"hello.txt", Some(b"hello world"))?);
-    assert_eq!(rt; files(alloc, &mut there), 1);
-    Ok(())
-}
-
-// ---- rows whose calls say all
+/// Its calls, its entries and its file.
+const WHOLE: Opening = Opening {
+    given: &[],
+    groups: &[&ASKED, &TOLD, &BROUGHT],
+    left: &[
+        Left::Bodies(&BODIES),
+        Left::File(b"hello.txt", Some(b"hello world")),
+        Left::Files(1),
+    ],
+};
 
 /// A content of no byte: nothing is planned, and nothing is saved.
 const EMPTY: [(Call, Said); 4] = [
@@ -69,15 +64,24 @@ const EMPTY_BODIES: [&[u8]; 6] = [
     b"\x0a\0\0\0\x01\xe3\xb0\xc4\x42\x98\xfc\x1c\x14\x9a\xfb\xf4\xc8\x99\x6f\xb9\x24\x27\xae\x41\xe4\x64\x9b\x93\x4c\xa4\x95\x99\x1b\x78\x52\xb8\x55\0\0\0\0\0\0\0\0",
 ];
 
+const NOTHING: Opening = Opening {
+    given: &[],
+    groups: &[&ASKED, &EMPTY],
+    left: &[
+        Left::Bodies(&EMPTY_BODIES),
+        Left::File(b"hello.txt", Some(b"")),
+    ],
+};
+
 #[test]
-fn an_empty_content_is_complete(rt: HostRuntime) -> Result<(), Fail> {
-    let alloc = rt.alloc();
-    let (other, mut there) = played(alloc, disk(alloc, None, None)?, &[&ASKED, &EMPTY])?;
-    assert_eq!(rt; other, None);
-    assert_eq!(rt; first_other_body(alloc, &mut there, &EMPTY_BODIES), None);
-    assert!(rt; has(alloc, &mut there, b"hello.txt", Some(b""))?);
-    Ok(())
+fn a_whole_download_and_an_empty_one_record_their_entries(rt: HostRuntime) {
+    for (place, opening) in [WHOLE, NOTHING].iter().enumerate() {
+        let played = play(rt.alloc(), None, opening);
+        assert_eq!(rt; played, Played::AsSaid, "in {place}");
+    }
 }
+
+// ---- rows whose calls say all
 
 const SHORT: Reason = Reason::ServerContentLengthMismatch;
 
@@ -366,78 +370,55 @@ const REFUSED: [(Call, Said); 7] = [
     (Call::Land(PART, 8, b"rld"), Said::Done),
 ];
 
-/// Rows over an empty disk, and the file that they leave under a name.
-const GROUPS: [(&[&[(Call, Said)]], &[u8], Option<&[u8]>); 12] = [
-    (&[&STATED], b"hello.txt", None),
-    (&[&ASKED, &HOLES], b"hello.txt", Some(b"hello world here")),
-    (&[&ASKED, &TOLD, &REOPENED_RUNNING], b"hello.txt", None),
-    (&[&ASKED, &UNTOLD], b"hello.txt", Some(b"hello world")),
-    (
-        &[&ASKED, &TOLD, &CUT, &WENT_ON],
-        b"hello.txt",
-        Some(b"hello world"),
-    ),
-    (
-        &[&ASKED, &TOLD, &CUT, &BROUGHT_ANEW],
-        b"hello.txt",
-        Some(b"HELLO WORLD"),
-    ),
-    (
-        &[&ASKED, &UNTAGGED, &CUT, &UNTAGGED_ANEW],
-        b"Unconfirmed 1-2.crdownload",
-        Some(b"HELLO WORLD"),
-    ),
-    (
-        &[&ASKED, &UNTAGGED, &CUT, &UNTAGGED_ANEW],
-        b"Unconfirmed 1-1.crdownload",
-        Some(b"hello"),
-    ),
-    (
-        &[&ASKED, &SHORTER],
-        b"Unconfirmed 1-2.crdownload",
-        Some(&[98; 40]),
-    ),
-    (&[&ASKED, &SHORTER], b"Unconfirmed 1-1.crdownload", None),
-    (
-        &[&ASKED, &TOLD, &PAUSED_AND_RESUMED],
-        b"hello.txt",
-        Some(b"hello world"),
-    ),
-    (
-        &[&ASKED, &TOLD, &REFUSED],
-        b"Unconfirmed 1-1.crdownload",
-        Some(b"hello world"),
-    ),
-];
+const ANEW_3: Pass = Pass {
+    id: ItemId(1),
+    attempt: Attempt(3),
+    epoch: Epoch(3),
+};
 
-#[test]
-fn calls_say_what_their_rows_say(rt: HostRuntime) -> Result<(), Fail> {
-    let alloc = rt.alloc();
-    for (row, (groups, name, bytes)) in GROUPS.iter().enumerate() {
-        let (other, mut there) = played(alloc, disk(alloc, None, None)?, groups)?;
-        assert_eq!(rt; other, None, "in {row}");
-        assert!(rt; has(alloc, &mut there, name, *bytes)?, "of {row}");
-    }
-    Ok(())
-}
+const ANEW_4: Pass = Pass {
+    id: ItemId(1),
+    attempt: Attempt(4),
+    epoch: Epoch(4),
+};
 
-/// What is said otherwise of an attempt by itself that brings all anew, and is cut.
-fn other_by_itself(alloc: Global, desk: &mut MemoryDesk, number: u32) -> Option<(usize, Said)> {
-    let pass = Pass {
-        id: ItemId(1),
-        attempt: Attempt(number),
-        epoch: Epoch(number),
-    };
-    let rows = [
-        (Call::Begin(1, By::Itself), Said::Begun(Begun::Fresh(pass))),
-        (Call::Cut(pass), Said::Done),
-    ];
-    first_other(alloc, desk, &rows)
-}
+const ANEW_5: Pass = Pass {
+    id: ItemId(1),
+    attempt: Attempt(5),
+    epoch: Epoch(5),
+};
 
-const CUT_AT_ONCE: [(Call, Said); 1] = [(Call::Cut(FIRST), Said::Done)];
+const ANEW_6: Pass = Pass {
+    id: ItemId(1),
+    attempt: Attempt(6),
+    epoch: Epoch(6),
+};
 
-const ENOUGH: [(Call, Said); 4] = [
+/// The first attempt and five by itself, which bring all anew, are cut at once. No sixth is due.
+const CUT_AT_ONCE: [(Call, Said); 15] = [
+    (Call::Cut(FIRST), Said::Done),
+    (Call::Begin(1, By::Itself), Said::Begun(Begun::Fresh(ANEW))),
+    (Call::Cut(ANEW), Said::Done),
+    (
+        Call::Begin(1, By::Itself),
+        Said::Begun(Begun::Fresh(ANEW_3)),
+    ),
+    (Call::Cut(ANEW_3), Said::Done),
+    (
+        Call::Begin(1, By::Itself),
+        Said::Begun(Begun::Fresh(ANEW_4)),
+    ),
+    (Call::Cut(ANEW_4), Said::Done),
+    (
+        Call::Begin(1, By::Itself),
+        Said::Begun(Begun::Fresh(ANEW_5)),
+    ),
+    (Call::Cut(ANEW_5), Said::Done),
+    (
+        Call::Begin(1, By::Itself),
+        Said::Begun(Begun::Fresh(ANEW_6)),
+    ),
+    (Call::Cut(ANEW_6), Said::Done),
     (Call::Due, Said::Due(None)),
     (Call::Mode(1), Said::Mode(Some(Mode::UserRestart))),
     (
@@ -447,21 +428,75 @@ const ENOUGH: [(Call, Said); 4] = [
     (Call::Resume(1), Said::Done),
 ];
 
+/// Calls at an empty disk, and the files that they leave.
+const OPENINGS: [Opening; 11] = [
+    Opening {
+        given: &[],
+        groups: &[&STATED],
+        left: &[Left::File(b"hello.txt", None)],
+    },
+    Opening {
+        given: &[],
+        groups: &[&ASKED, &HOLES],
+        left: &[Left::File(b"hello.txt", Some(b"hello world here"))],
+    },
+    Opening {
+        given: &[],
+        groups: &[&ASKED, &TOLD, &REOPENED_RUNNING],
+        left: &[Left::File(b"hello.txt", None)],
+    },
+    Opening {
+        given: &[],
+        groups: &[&ASKED, &UNTOLD],
+        left: &[Left::File(b"hello.txt", Some(b"hello world"))],
+    },
+    Opening {
+        given: &[],
+        groups: &[&ASKED, &TOLD, &CUT, &WENT_ON],
+        left: &[Left::File(b"hello.txt", Some(b"hello world"))],
+    },
+    Opening {
+        given: &[],
+        groups: &[&ASKED, &TOLD, &CUT, &BROUGHT_ANEW],
+        left: &[Left::File(b"hello.txt", Some(b"HELLO WORLD"))],
+    },
+    Opening {
+        given: &[],
+        groups: &[&ASKED, &UNTAGGED, &CUT, &UNTAGGED_ANEW],
+        left: &[
+            Left::File(b"Unconfirmed 1-2.crdownload", Some(b"HELLO WORLD")),
+            Left::File(b"Unconfirmed 1-1.crdownload", Some(b"hello")),
+        ],
+    },
+    Opening {
+        given: &[],
+        groups: &[&ASKED, &SHORTER],
+        left: &[
+            Left::File(b"Unconfirmed 1-2.crdownload", Some(&[98; 40])),
+            Left::File(b"Unconfirmed 1-1.crdownload", None),
+        ],
+    },
+    Opening {
+        given: &[],
+        groups: &[&ASKED, &TOLD, &PAUSED_AND_RESUMED],
+        left: &[Left::File(b"hello.txt", Some(b"hello world"))],
+    },
+    Opening {
+        given: &[],
+        groups: &[&ASKED, &TOLD, &REFUSED],
+        left: &[Left::File(b"Unconfirmed 1-1.crdownload", Some(b"hello world"))],
+    },
+    Opening {
+        given: &[],
+        groups: &[&ASKED, &CUT_AT_ONCE],
+        left: &[Left::File(b"hello.txt", None)],
+    },
+];
+
 #[test]
-fn five_attempts_by_itself_are_enough(rt: HostRuntime) -> Result<(), Fail> {
-    let alloc = rt.alloc();
-    let Ok(mut desk) = open(alloc, disk(alloc, None, None)?) else {
-        return Err("not opened".into());
-    };
-    assert_eq!(rt; first_other(alloc, &mut desk, &ASKED), None);
-    assert_eq!(rt; first_other(alloc, &mut desk, &CUT_AT_ONCE), None);
-    for number in 2..7u32 {
-        assert_eq!(rt;
-            other_by_itself(alloc, &mut desk, number),
-            None,
-            "at {number}"
-        );
+fn calls_say_what_their_rows_say(rt: HostRuntime) {
+    for (place, opening) in OPENINGS.iter().enumerate() {
+        let played = play(rt.alloc(), None, opening);
+        assert_eq!(rt; played, Played::AsSaid, "in {place}");
     }
-    assert_eq!(rt; first_other(alloc, &mut desk, &ENOUGH), None);
-    Ok(())
 }

@@ -1,6 +1,5 @@
 pub mod Damage
 pub mod Files
-pub mod Keeping
 pub mod Kept
 pub mod Recovery
 pub mod Room

@@ -1,8 +1,6 @@
 ghost use Rattle.std.specs.Prelude.{◌≡◌, ℕ, List, Option};
-ghost use Rattle.dm_disk_model.specs.Disk.{DiskState, IsSoundDisk, reading};
 ghost use Rattle.dm_item.specs.Lawful.{History};
 ghost use Rattle.dm_kept.specs.Damage.{IsDamage};
-ghost use Rattle.dm_kept.specs.Recovery.{Kept, Recovers, Through};
 ghost use Rattle.dm_kept.specs.Room.{IsTaken};
 ghost use Rattle.dm_kept.specs.Spelled.{IsJournalOf, Records};
 
@@ -10,12 +8,6 @@ ghost use Rattle.dm_kept.specs.Spelled.{IsJournalOf, Records};
 /// spelling of one entry.
 pub fn recovery_is_one()
     ensures { (found : Option (List ℕ)) (a b : History) → Records found a → Records found b → a ≡ b }
-{}
-
-/// A disk as it reads is one of its images, so what holds of whatever a crash leaves holds of it.
-pub fn reads_as_an_image()
-    ensures { (disk : DiskState) (before more : History) → IsSoundDisk disk → Kept (Through before more) disk
-        → Recovers (Through before more) (reading disk) }
 {}
 
 /// A journal that a desk takes isn't damaged, and the place of the damage is one.

@@ -8,4 +8,4 @@ mod laws;
 pub use files::{
     an_empty_disk_is_kept, found_is_kept, items_are_small, kept_is_sound, sits_exactly,
 };
-pub use laws::{damage_is_one, reads_as_an_image, recovery_is_one};
+pub use laws::{damage_is_one, recovery_is_one};

@@ -29,9 +29,9 @@ use Rattle.dm_does.specs.Leaving.{IsTouched, KeepsOne, ShowsDamage}
 use Rattle.dm_does.specs.Log.{Run, Unread, Unopened}
 use Rattle.dm_does.specs.World.{IsLater, World}
 use Rattle.dm_does.proofs.Touching.{opening_touches}
-use Rattle.dm_list.specs.Running.{JobRefused, RunsBy, SaysRefusal, ShowsOpening, world_of}
+use Rattle.dm_list.specs.Running.{IsClosed, JobRefused, RunsBy, SaysRefusal, ShowsOpening, world_of}
 
-module _ {D : Type 0} (brings : ℕ → Bringing) (tells : Type 0) (clock : D → Clock) (counts : D → DiskKind → ℕ) (far : D → ℕ) (says : Says) (words : List (List ℕ)) (has : HasSomeJob words) (at : ℕ) (start end : D) (said : Said)
+module _ {D : Type 0} (P : Run → Type 0) (shut : (run : Run) → IsClosed run → P run) (brings : ℕ → Bringing) (tells : Type 0) (clock : D → Clock) (counts : D → DiskKind → ℕ) (far : D → ℕ) (says : Says) (words : List (List ℕ)) (has : HasSomeJob words) (at : ℕ) (start end : D) (said : Said)
     (net_faults : NetFault → ℕ) (closed : List Closed) (fell : NoneFell (counts start) (counts end)) (beside : tells → Besides (IsSettledName clock start) (clock start) (clock end)) where
   abbrev before : World
   before = world_of clock counts net_faults closed start
@@ -40,7 +40,7 @@ module _ {D : Type 0} (brings : ℕ → Bringing) (tells : Type 0) (clock : D �
   after = world_of clock counts net_faults closed end
 
   abbrev Ran : Type 0
-  Ran = RunsBy brings tells says words at before after (far start) (far end) said
+  Ran = RunsBy P brings tells says words at before after (far start) (far end) said
 
   later : IsLater tells before after
   later = record {
@@ -69,6 +69,7 @@ module _ {D : Type 0} (brings : ℕ → Bringing) (tells : Type 0) (clock : D �
           after = at_end (clock start) (clock end) (Kept true says (Through kept rest)) through;
           settles = tt;
         };
+    besides = shut Unread tt;
   }
 
   hindered : IsHindered tells clock far says start end most_items at → SaysFault before after said → ShowsDamage (clock start) (clock end) said.verdict → Ran
@@ -89,32 +90,33 @@ module _ {D : Type 0} (brings : ℕ → Bringing) (tells : Type 0) (clock : D �
       after = h.is.kept told true (record { earlier = kept; more = rest; kept = here });
       settles = tt;
     };
+    besides = shut (Unopened h.found h.recorded h.failed h.rest) tt;
   }
 
 -- what is said shows no damage
 no_damage : (start end : Clock) (said : Said) (verdict : Verdict) → said ≡ only verdict → ShowsDamage start end verdict → ShowsDamage start end said.verdict
 no_damage start end said verdict is shows = subst (λ (s : Said). ShowsDamage start end s.verdict) (sym is) shows
 
-module _ {D : Type 0} (brings : ℕ → Bringing) (tells : Type 0) (clock : D → Clock) (counts : D → DiskKind → ℕ) (far : D → ℕ) (says : Says) (words : List (List ℕ)) (has : HasSomeJob words) (at : ℕ) (start : D) (said : Said)
+module _ {D : Type 0} (P : Run → Type 0) (shut : (run : Run) → IsClosed run → P run) (brings : ℕ → Bringing) (tells : Type 0) (clock : D → Clock) (counts : D → DiskKind → ℕ) (far : D → ℕ) (says : Says) (words : List (List ℕ)) (has : HasSomeJob words) (at : ℕ) (start : D) (said : Said)
     (net_faults : NetFault → ℕ) (closed : List Closed) where
   abbrev RanTo : D → Type 0
-  RanTo end = RunsBy brings tells says words at (world_of clock counts net_faults closed start) (world_of clock counts net_faults closed end) (far start) (far end) said
+  RanTo end = RunsBy P brings tells says words at (world_of clock counts net_faults closed start) (world_of clock counts net_faults closed end) (far start) (far end) said
 
   by_fault : (fault : OpenFault D) → SaysRefusal fault said → OpenRefuses tells clock far says start most_items at fault → NoneFell (counts start) (counts (disk_in fault)) → (tells → Besides (IsSettledName clock start) (clock start) (clock (disk_in fault)))
       → ShowsOpening (counts start) (counts (disk_in fault)) fault → RanTo (disk_in fault)
   by_fault (opens.Damaged place disk) (inl is) refuses fell beside shows =
-      unread brings tells clock counts far says words has at start disk said net_faults closed fell beside refuses.0 (inr (place, is))
+      unread P shut brings tells clock counts far says words has at start disk said net_faults closed fell beside refuses.0 (inr (place, is))
       (λ told. no_damage (clock start) (clock disk) said (verdicts.Damaged place) is (let stays = refuses.1 told in (stays.damaged.damage, stays.damaged.unchanged)))
   by_fault (opens.Damaged place disk) (inr is) refuses fell beside shows =
-      unread brings tells clock counts far says words has at start disk said net_faults closed fell beside refuses.0 (inl (inr is)) (λ told. no_damage (clock start) (clock disk) said verdicts.NoMemory is tt)
+      unread P shut brings tells clock counts far says words has at start disk said net_faults closed fell beside refuses.0 (inl (inr is)) (λ told. no_damage (clock start) (clock disk) said verdicts.NoMemory is tt)
   by_fault (opens.Disk kind disk) is (inl none) fell beside shows =
-      unread brings tells clock counts far says words has at start disk said net_faults closed fell beside none (inl (inl (kind, shows, is))) (λ told. no_damage (clock start) (clock disk) said (verdicts.DiskFailed kind) is tt)
+      unread P shut brings tells clock counts far says words has at start disk said net_faults closed fell beside none (inl (inl (kind, shows, is))) (λ told. no_damage (clock start) (clock disk) said (verdicts.DiskFailed kind) is tt)
   by_fault (opens.Disk kind disk) is (inr h) fell beside shows =
-      hindered brings tells clock counts far says words has at start disk said net_faults closed fell beside h (inl (kind, shows, is)) (no_damage (clock start) (clock disk) said (verdicts.DiskFailed kind) is tt)
+      hindered P shut brings tells clock counts far says words has at start disk said net_faults closed fell beside h (inl (kind, shows, is)) (no_damage (clock start) (clock disk) said (verdicts.DiskFailed kind) is tt)
   by_fault (opens.NoMemory disk) is (inl none) fell beside shows =
-      unread brings tells clock counts far says words has at start disk said net_faults closed fell beside none (inl (inr is)) (λ told. no_damage (clock start) (clock disk) said verdicts.NoMemory is tt)
+      unread P shut brings tells clock counts far says words has at start disk said net_faults closed fell beside none (inl (inr is)) (λ told. no_damage (clock start) (clock disk) said verdicts.NoMemory is tt)
   by_fault (opens.NoMemory disk) is (inr (h, none)) fell beside shows =
-      hindered brings tells clock counts far says words has at start disk said net_faults closed fell beside h (inr is) (no_damage (clock start) (clock disk) said verdicts.NoMemory is tt)
+      hindered P shut brings tells clock counts far says words has at start disk said net_faults closed fell beside h (inr is) (no_damage (clock start) (clock disk) said verdicts.NoMemory is tt)
 
   pub refused_runs : (end : D) → JobRefused tells clock counts far says at start end said → RanTo end
   refused_runs end r =

@@ -1,9 +1,15 @@
 -- What a job leaves that was done on a list that was opened.
-use Rattle.std.proofs.Common.{◌≡◌, inl, ℕ, ◌+◌, true, List, [], ◌++◌, refl, sym, ◌∙◌, subst, arith}
-use Rattle.dm_types.specs.Faults.{NoneFell}
+use Rattle.std.proofs.Common.{◌≡◌, ◌⊎◌, inl, inr, ℕ, ◌+◌, Bool, true, false, List, [], ◌∷◌, ◌++◌, Option, Some, None, refl, sym, ◌∙◌, ap, subst, append_assoc, arith}
+use Rattle.dm_types.specs.Faults.{NoneFell, NoneRose}
 use Rattle.dm_types.specs.Name.{IsPart}
+use Rattle.dm_types.specs.declared.entry.Entry.TheVariants as entries
 use Rattle.dm_types.specs.declared.item.Item.{Item}
+use Rattle.dm_types.specs.declared.item.ItemId.{ItemId}
+use Rattle.dm_types.specs.declared.item.Phase.{Phase}
+use Rattle.dm_types.specs.declared.item.Phase.TheVariants as phases
 use Rattle.dm_types.specs.declared.kinds.DiskKind.{DiskKind}
+use Rattle.dm_types.specs.declared.reason.Reason.{Reason}
+use Rattle.dm_types.specs.declared.reason.Reason.TheVariants as reasons
 use Rattle.dm_disk_model.specs.Beside.{Besides}
 use Rattle.dm_disk_model.specs.Disk.{DiskState, History as Clock, now}
 use Rattle.dm_disk_model.specs.Moments.{Throughout}
@@ -12,75 +18,187 @@ use Rattle.dm_disk_model.proofs.Reaching.{joined, weaker}
 use Rattle.dm_edge.specs.declared.fault.NetFault.{NetFault}
 use Rattle.dm_edge.specs.Wire.{Closed}
 use Rattle.dm_item.specs.Kept.{IsNumbered}
-use Rattle.dm_item.specs.Lawful.{History, IsOf}
+use Rattle.dm_item.specs.Lawful.{History, items_of}
+use Rattle.dm_item.specs.Listing.{item_in}
 use Rattle.dm_item.proofs.Shorts.{numbered_of}
 use Rattle.dm_kept.specs.Files.{Says}
-use Rattle.dm_kept.specs.Kept.{Kept}
+use Rattle.dm_kept.specs.Kept.{Kept, WasKept}
 use Rattle.dm_kept.specs.Recovery.{Through}
 use Rattle.dm_kept.specs.Room.{IsTaken}
 use Rattle.dm_open.proofs.Opened.{front_more}
 use Rattle.dm_report.specs.Said.{Said, only}
+use Rattle.dm_report.specs.Texts.{item_line_of}
 use Rattle.dm_report.specs.declared.verdict.Verdict.TheVariants as verdicts
 use Rattle.dm_store.specs.Keeps.{Goes, HoldsOf, added}
 use Rattle.dm_store.specs.View.{View, spelled}
 use Rattle.dm_store.proofs.Composing.{spelled_then}
+use Rattle.dm_answers.specs.Frame.{Went}
 use Rattle.dm_answers.specs.Opening.{IsNear}
+use Rattle.dm_attempt.specs.Goes.{DeskGoes}
+use Rattle.dm_attempt.proofs.Goes.{goes_then}
+use Rattle.dm_brings.specs.Bringing.{brings_of}
+use Rattle.dm_bring.specs.Bringing.{MayName, WasBrought}
 use Rattle.dm_does.specs.declared.course.Course.{Course}
 use Rattle.dm_does.specs.declared.course.Course.TheVariants.{Ends, Brings}
 use Rattle.dm_does.specs.declared.job.Job.{Job}
 use Rattle.dm_does.specs.Answering.{Bringing, Came, Works, all, broke, fell, given_by, stopped, unsaid}
+use Rattle.dm_does.specs.Deciding.{Did}
 use Rattle.dm_does.specs.Doing.{Doing, does}
 use Rattle.dm_does.specs.Laws.{IsOfList}
-use Rattle.dm_does.specs.Leaving.{IsTouched, KeepsAll, Leaves, ShowsDamage}
+use Rattle.dm_does.specs.Leaving.{IsFinished, IsTouched, KeepsAll, Leaves, ShowsDamage}
 use Rattle.dm_does.specs.Log.{Log, Opened, opened_of, tried_of}
-use Rattle.dm_does.specs.Saying.{said_by}
+use Rattle.dm_does.specs.Saying.{said_by, said_in, said_interrupted, said_of}
 use Rattle.dm_does.specs.Session.{IsSession, log_of}
 use Rattle.dm_does.specs.World.{IsLater, World}
 use Rattle.dm_does.proofs.Fitting.{does_fit}
 use Rattle.dm_does.proofs.Openings.{opening_done, tried_later}
 use Rattle.dm_does.proofs.Sessions.{session_ends, session_holds, session_keeps, session_leaves}
 use Rattle.dm_does.proofs.Touching.{opening_touches}
-use Rattle.dm_list.specs.Reading.{IsListJob}
+use Rattle.dm_list.specs.Completing.{BringsWell}
 use Rattle.dm_list.specs.Running.{JobWorked, world_of}
+use Rattle.dm_list.specs.Working.{CallGoes, Worked}
 use Rattle.dm_list.proofs.Coming as coming
-
--- no count fell over both
-none_fell : (first middle last : DiskKind → ℕ) → NoneFell first middle → NoneFell middle last → NoneFell first last
-none_fell first middle last one two kind = let a = one kind in let b = two kind in omega (arith, a, b)
+use Rattle.dm_list.proofs.Coming.{carried, cut, over, wanting}
+use Rattle.dm_list.proofs.Going.{goes_one, goes_swept}
 
 any_moment : (P : DiskState → Type 0) (start end : Clock) → Throughout start end P → Throughout start end (λ disk. Unit {0})
 any_moment P start end through = weaker start end P (λ disk. Unit {0}) (λ disk is. tt) through
 
--- what is said of the list is no damage
-said_whole : (start end : Clock) (items : List Item) (course : Course) → IsOfList course → coming.IsEnd course → ShowsDamage start end (said_by items course).verdict
-said_whole start end items (Ends (verdicts.Damaged place) show) of_list end_is = absurd of_list
-said_whole start end items (Ends verdict show) of_list end_is = tt
-said_whole start end items (Brings id slices) of_list end_is = absurd end_is
+-- What is said of the list, or of an item that was brought, is no damage.
+
+interrupted_whole : (start end : Clock) (reason : Reason) (line : List ℕ) → ShowsDamage start end (said_interrupted reason line).verdict
+interrupted_whole start end reasons.NoMemory line = tt
+interrupted_whole start end reason line = tt
+
+phase_whole : (start end : Clock) (phase : Phase) (line : List ℕ) → ShowsDamage start end (said_in phase line).verdict
+phase_whole start end phases.Complete line = tt
+phase_whole start end (phases.Interrupted reason) line = interrupted_whole start end reason line
+phase_whole start end phase line = tt
+
+brought_whole : (start end : Clock) (found : Option Item) → ShowsDamage start end (said_of found).verdict
+brought_whole start end None = tt
+brought_whole start end (Some item) = phase_whole start end item.phase (item_line_of item)
+
+said_whole : (start end : Clock) (items : List Item) (course : Course) → IsOfList course → ShowsDamage start end (said_by items course).verdict
+said_whole start end items (Ends (verdicts.Damaged place) show) of_list = absurd of_list
+said_whole start end items (Ends verdict show) of_list = tt
+said_whole start end items (Brings id slices) of_list = brought_whole start end (item_in id.0 items)
 
 shows_as : (start end : Clock) (said other : Said) → said ≡ other → ShowsDamage start end other.verdict → ShowsDamage start end said.verdict
 shows_as start end said other same shows = subst (λ (s : Said). ShowsDamage start end s.verdict) (sym same) shows
 
-never_damaged : (start end : Clock) (brings : Bringing) (tells : Type 0) (at : ℕ) (before after : World) (doing : Doing) (log : Log) (said : Said) → IsOfList doing.course → coming.IsEnd doing.course → Came brings tells at before after doing log said
-    → ShowsDamage start end said.verdict
-never_damaged start end brings tells at before after doing log said of_list ends (all whole none_failed went is) = shows_as start end said _ is (said_whole start end _ doing.course of_list ends)
-never_damaged start end brings tells at before after doing log said of_list ends (fell kind entry is_broken failed_is cut failed is) = shows_as start end said (only (verdicts.DiskFailed kind)) is tt
-never_damaged start end brings tells at before after doing log said of_list ends (broke kind is_broken went is) = shows_as start end said (only (verdicts.DiskFailed kind)) is tt
-never_damaged start end brings tells at before after doing log said of_list ends (stopped whole none_failed cut is) = shows_as start end said (only verdicts.NoMemory) is tt
-never_damaged start end brings tells at before after doing log said of_list ends (unsaid whole none_failed went is) = shows_as start end said (only verdicts.NoMemory) is tt
+never_damaged : (start end : Clock) (brings : Bringing) (tells : Type 0) (at : ℕ) (before after : World) (doing : Doing) (log : Log) (said : Said) → IsOfList doing.course → Came brings tells at before after doing log said → ShowsDamage start end said.verdict
+never_damaged start end brings tells at before after doing log said of_list (all whole none_failed went is) = shows_as start end said _ is (said_whole start end _ doing.course of_list)
+never_damaged start end brings tells at before after doing log said of_list (fell kind entry is_broken failed_is some failed is) = shows_as start end said (only (verdicts.DiskFailed kind)) is tt
+never_damaged start end brings tells at before after doing log said of_list (broke kind is_broken went is) = shows_as start end said (only (verdicts.DiskFailed kind)) is tt
+never_damaged start end brings tells at before after doing log said of_list (stopped whole none_failed some is) = shows_as start end said (only verdicts.NoMemory) is tt
+never_damaged start end brings tells at before after doing log said of_list (unsaid whole none_failed went is) = shows_as start end said (only verdicts.NoMemory) is tt
 
-module _ {D O : Type 0} (tells : Type 0) (clock : D → Clock) (counts : D → DiskKind → ℕ) (far : D → ℕ) (says : O → Says) (origin : O) (job : Job) (at : ℕ) (start end : D) (said : Said) (list_job : IsListJob job)
-    (w : JobWorked tells clock counts far says origin job at start end said) where
+-- an item that was finished behind a longer history
+finished_behind : (found front tried : History) (name : List ℕ) → IsFinished (found ++ front) tried name → IsFinished found (front ++ tried) name
+finished_behind found front tried name is = record {
+  front = front ++ is.front;
+  id = is.id;
+  total = is.total;
+  back = is.back;
+  tried_is = ap (λ (h : History). front ++ h) is.tried_is ∙ sym (append_assoc front is.front (entries.Finishing is.id is.total ∷ is.back));
+  item = is.item;
+  there = subst (λ (h : History). item_in is.id.0 (items_of h) ≡ Some is.item) (append_assoc found front is.front) is.there;
+  named = is.named;
+}
+
+module _ {D O : Type 0} (tells : Type 0) (clock : D → Clock) (counts : D → DiskKind → ℕ) (far : D → ℕ) (says : O → Says) (net : Type 0) (origin : O) (job : Job) (at : ℕ) (start end : D) (was closed : List Closed) (before after : NetFault → ℕ) (said : Said)
+    (w : JobWorked tells clock counts far says net origin job at start end was closed before after said) where
   abbrev found : History
   found = w.is.found
 
   abbrev pub log : Log
   log = log_of found w.opened w.ended
 
+  abbrev worked : Worked tells clock counts far says net job at w.opened w.ended was closed before after said
+  worked = w.worked
+
+  abbrev Spared : List ℕ → Type 0
+  Spared = IsTouched (clock start) found (tried_of log)
+
+  spared_part : (name : List ℕ) → IsPart name → Spared name
+  spared_part name part = inl part
+
+  -- All calls behind the opening, one behind another.
+  record Chain : Type 0 where
+    recorded : History
+    failed : History
+    broken : Bool
+    goes : DeskGoes tells clock says far counts Spared w.opened w.ended recorded failed broken
+
+  chain_of : (recorded failed : History) (broken : Bool) → DeskGoes tells clock says far counts Spared w.opened worked.between recorded failed broken → Chain
+  chain_of recorded failed broken goes = record {
+    recorded = recorded;
+    failed = failed;
+    broken = broken;
+    goes = goes_swept tells clock counts far says Spared spared_part w.opened worked.between w.ended recorded failed broken goes worked.unfailed worked.went worked.stays worked.behind;
+  }
+
+  one : (view : View D O) (recorded failed : History) (broken : Bool) → Went w.opened view recorded failed broken → CallGoes tells clock counts far says w.opened view → DeskGoes tells clock says far counts Spared w.opened view recorded failed broken
+  one view recorded failed broken went goes = goes_one tells clock counts far says Spared spared_part w.opened view recorded failed broken went goes
+
+  abbrev doing : Doing
+  doing = coming.doing tells clock counts far says net origin job at start end was closed before after said w
+
+  module _ (id : ItemId) (slices : ℕ) (is : doing.course ≡ Brings id slices) (there : Did doing w.opened worked.decided) (b : WasBrought tells clock counts far says net worked.decided worked.between was closed before after id slices at worked.onward) where
+    abbrev fetched : History
+    fetched = b.brought.fetched
+
+    went_all : Went w.opened worked.between (doing.entries ++ fetched) worked.between.failed worked.between.broken
+    went_all = coming.carried_went tells clock counts far says net origin job at start end was closed before after said w id slices there b
+
+    -- all that was tried behind what was found
+    tried_all : (w.opened.list ++ doing.entries) ++ (fetched ++ worked.between.failed) ≡ tried_of log
+    tried_all =
+        append_assoc w.opened.list doing.entries (fetched ++ worked.between.failed)
+        ∙ ap (λ (h : History). w.opened.list ++ h)
+        (sym (append_assoc doing.entries fetched worked.between.failed)
+        ∙ ap (λ (h : History). h ++ worked.between.failed) (sym (coming.more_is tells clock counts far says net origin job at start end was closed before after said w (doing.entries ++ fetched) worked.between.failed worked.between.broken went_all))
+        ∙ ap (λ (h : History). log.more ++ h) (sym (coming.failed_here tells clock counts far says net origin job at start end was closed before after said w (doing.entries ++ fetched) worked.between.failed worked.between.broken went_all)))
+
+    -- the name of the item that was brought is one that the run touches
+    named : (name : List ℕ) → MayName ((found ++ w.opened.list) ++ doing.entries) (fetched ++ worked.between.failed) name → Spared name
+    named name (inl part) = inl part
+    named name (inr finished) =
+        inr (inr (subst (λ (h : History). IsFinished found h name) tried_all
+        (finished_behind found (w.opened.list ++ doing.entries) (fetched ++ worked.between.failed) name
+        (subst (λ (h : History). IsFinished h (fetched ++ worked.between.failed) name) (append_assoc found w.opened.list doing.entries) finished))))
+
+    brought_chain : Chain
+    brought_chain =
+        let own = one worked.decided doing.entries [] false (coming.own_went tells clock counts far says net origin job at start end was closed before after said w worked.decided there) worked.own in
+        chain_of (doing.entries ++ fetched) worked.between.failed worked.between.broken
+        (goes_then tells clock says far counts Spared w.opened worked.decided worked.between doing.entries fetched worked.between.failed worked.between.broken own b.goes.went
+        (record {
+          keeps = b.goes.keeps;
+          near = b.goes.near;
+          later = b.goes.later;
+          beside = λ told.
+              besides_more (MayName ((found ++ w.opened.list) ++ doing.entries) (fetched ++ worked.between.failed)) Spared (clock worked.decided.disk) (clock worked.between.disk) named
+              (b.goes.beside (coming.carried_waits tells clock counts far says net origin job at start end was closed before after said w id slices is there) told ((found ++ w.opened.list) ++ doing.entries)
+              (coming.carried_of tells clock counts far says net origin job at start end was closed before after said w there));
+        }))
+
+  chain : Chain
+  chain = by (coming.outcome tells clock counts far says net origin job at start end was closed before after said w)
+    where
+      by : coming.Outcome tells clock counts far says net origin job at start end was closed before after said w → Chain
+      by (over verdict show is there on own idle) = chain_of doing.entries [] false (one worked.between doing.entries [] false (coming.over_went tells clock counts far says net origin job at start end was closed before after said w there) own)
+      by (carried id slices is there b) = brought_chain id slices is there b
+      by (cut kind failed rose on own idle) =
+          chain_of failed.recorded (failed.entry ∷ []) true (one worked.between failed.recorded (failed.entry ∷ []) true (coming.cut_went tells clock counts far says net origin job at start end was closed before after said w failed) own)
+      by (wanting same on own idle) = chain_of [] [] false (one worked.between [] [] false (coming.wanting_went tells clock counts far says net origin job at start end was closed before after said w same) own)
+
   disk_later : NoneFell (counts start) (counts w.ended.disk)
-  disk_later = none_fell (counts start) (counts w.opened.disk) (counts w.ended.disk) w.later w.goes.later
+  disk_later kind = let a = w.later kind in let b = chain.goes.later kind in omega (arith, a, b)
 
   behind : tells → Throughout (clock w.opened.disk) (clock w.ended.disk) (λ disk. Unit {0})
-  behind told = any_moment _ (clock w.opened.disk) (clock w.ended.disk) (w.goes.beside told)
+  behind told = any_moment _ (clock w.opened.disk) (clock w.ended.disk) (chain.goes.beside told)
 
   moments : tells → Throughout (clock start) (clock w.ended.disk) (λ disk. Unit {0})
   moments told = joined (clock start) (clock w.opened.disk) (clock w.ended.disk) (λ disk. Unit {0}) (any_moment _ (clock start) (clock w.opened.disk) (w.beside told)) (behind told)
@@ -90,10 +208,10 @@ module _ {D O : Type 0} (tells : Type 0) (clock : D → Clock) (counts : D → D
     opens = w.is.runs told;
     holds = w.is.holds told;
     on = w.on told;
-    done = λ was. opening_done found w.opened.list w.is.tried.settled at w.is.tried.tried_is (w.is.never_breaks told was);
-    goes = λ good before held.
-        subst (λ (o : O). Goes good (says o) clock w.opened w.ended before (added w.opened w.ended)) w.origin_is
-        (w.goes.keeps told good before (subst (λ (o : O). HoldsOf good (says o) clock w.opened before) (sym w.origin_is) held));
+    done = λ was_kept. opening_done found w.opened.list w.is.tried.settled at w.is.tried.tried_is (w.is.never_breaks told was_kept);
+    goes = λ good earlier held.
+        subst (λ (o : O). Goes good (says o) clock w.opened w.ended earlier (added w.opened w.ended)) w.origin_is
+        (chain.goes.keeps told good earlier (subst (λ (o : O). HoldsOf good (says o) clock w.opened earlier) (sym w.origin_is) held));
   }
 
   near : tells → IsNear (found ++ tried_of log) (far start) (far w.ended.disk)
@@ -102,43 +220,34 @@ module _ {D O : Type 0} (tells : Type 0) (clock : D → Clock) (counts : D → D
       let opening = front_more found w.opened.list in
       let gate = w.is.gate_is in
       let both : spelled (tried_of log) ≡ spelled w.opened.list + spelled (added w.opened w.ended ++ w.ended.failed) = spelled_then w.opened.list (added w.opened w.ended ++ w.ended.failed) in
-      w.goes.near (omega (arith, short, whole, gate, both)) ∙ w.is.near told (omega (arith, short, whole, opening, both))
+      chain.goes.near (omega (arith, short, whole, gate, both)) ∙ w.is.near told (omega (arith, short, whole, opening, both))
 
   files : tells → Besides (IsTouched (clock start) found (tried_of log)) (clock start) (clock w.ended.disk)
   files told =
       besides_then (IsTouched (clock start) found (tried_of log)) (clock start) (clock w.opened.disk) (clock w.ended.disk)
-      (opening_touches clock start (clock w.opened.disk) found (tried_of log) (w.beside told))
-      (besides_more IsPart (IsTouched (clock start) found (tried_of log)) (clock w.opened.disk) (clock w.ended.disk) (λ name part. inl part) (w.goes.beside told))
+      (opening_touches clock start (clock w.opened.disk) found (tried_of log) (w.beside told)) (chain.goes.beside told)
 
-  of_here : IsOf (found ++ w.opened.list) w.opened.items
-  of_here = w.is.items
+  abbrev first : World
+  first = world_of clock counts before was start
 
-  module _ (net_faults : NetFault → ℕ) (closed : List Closed) where
-    abbrev before : World
-    before = world_of clock counts net_faults closed start
+  abbrev last : World
+  last = world_of clock counts after closed w.ended.disk
 
-    abbrev after : World
-    after = world_of clock counts net_faults closed w.ended.disk
+  came : Came (brings_of tells clock says far counts net at) tells at first last (does job (given_by (opened_of log) at)) log said
+  came = coming.came tells clock counts far says net origin job at start end was closed before after said w
 
-    came : (brings : Bringing) → Came brings tells at before after (does job (given_by (opened_of log) at)) log said
-    came brings = coming.came tells clock counts found at job w.opened w.ended said of_here w.limit w.is.whole w.is.none_failed list_job w.worked brings tells before after refl w.later (λ kind. omega arith)
+  pub works : Works (brings_of tells clock says far counts net) tells first last job at log said
+  works = record {
+    taken = subst (λ (n : ℕ). IsTaken n found) w.limits w.is.taken;
+    lawful = coming.lawful tells clock counts far says net origin job at start end was closed before after said w;
+    opened = tried_later (clock start) (clock w.opened.disk) (clock w.ended.disk) tells at found w.opened.list [] behind w.is.tried;
+    once = coming.plain tells clock counts far says net origin job at start end was closed before after said w;
+    came = came;
+    swept = coming.swept_here tells clock counts far says net origin job at start end was closed before after said w;
+  }
 
-    pub works : (brings : ℕ → Bringing) → Works brings tells before after job at log said
-    works brings = record {
-      taken = subst (λ (n : ℕ). IsTaken n found) w.limits w.is.taken;
-      lawful = coming.lawful tells clock counts found at job w.opened w.ended said of_here w.limit w.is.whole w.is.none_failed list_job w.worked;
-      opened = tried_later (clock start) (clock w.opened.disk) (clock w.ended.disk) tells at found w.opened.list [] behind w.is.tried;
-      once = coming.plain tells clock counts found at job w.opened w.ended said of_here w.limit w.is.whole w.is.none_failed list_job w.worked;
-      came = came (brings at);
-      swept = λ is unbroken.
-          coming.swept_here tells clock counts found at job w.opened w.ended said of_here w.limit w.is.whole w.is.none_failed list_job w.worked (brings at) tells before after refl w.later (λ kind. omega arith) is unbroken refl refl;
-    }
-
-    pub later : IsLater tells before after
-    later = record { disk_later = disk_later; net_later = λ kind. omega arith; moments_stay = moments }
-
-  none_brings : Bringing
-  none_brings from to id slices history fetched failed kind = ⊥
+  pub later : IsLater tells first last
+  later = record { disk_later = disk_later; net_later = worked.net_later; moments_stay = moments }
 
   pub leaves : tells → Leaves (clock start) (clock w.ended.disk) (far start) (far w.ended.disk) said.verdict (Opened log)
   leaves told = record {
@@ -146,13 +255,16 @@ module _ {D O : Type 0} (tells : Type 0) (clock : D → Clock) (counts : D → D
     ends = session_ends clock (says origin) (clock start) found w.opened w.ended (session told);
     files = files told;
     holds = session_holds clock (says origin) (clock start) found w.opened w.ended (session told);
-    damage = never_damaged (clock start) (clock w.ended.disk) none_brings tells at (before (λ kind. 0) []) (after (λ kind. 0) []) (does job (given_by (opened_of log) at)) log said
-        (does_fit job (given_by (opened_of log) at) numbered).course (coming.list_end job (given_by (opened_of log) at) list_job) (came (λ kind. 0) [] none_brings);
+    damage = never_damaged (clock start) (clock w.ended.disk) (brings_of tells clock says far counts net at) tells at first last (does job (given_by (opened_of log) at)) log said (does_fit job (given_by (opened_of log) at) numbered).course came;
     near = near told;
   }
     where
       numbered : IsNumbered 1 (given_by (opened_of log) at).list.items (given_by (opened_of log) at).list.next
-      numbered = numbered_of (found ++ w.opened.list) (given_by (opened_of log) at).list (record { lawful = of_here.lawful; value = refl })
+      numbered = numbered_of (found ++ w.opened.list) (given_by (opened_of log) at).list (record { lawful = w.is.items.lawful; value = refl })
 
   pub keeps : tells → (kept rest : History) → Kept true (says origin) (Through kept rest) (now (clock start)) → KeepsAll (says origin) (clock start) (clock w.ended.disk) kept rest (Opened log)
   keeps told kept rest here = session_keeps clock (says origin) (clock start) found w.opened w.ended (session told) kept rest here
+
+  pub completes : tells → WasKept true (says origin) (now (clock start)) → NoneRose (counts start) (counts w.ended.disk) → (id : ItemId) (slices : ℕ) → (does job (given_by (opened_of log) at)).course ≡ Brings id slices
+      → BringsWell tells clock says far counts net (clock start) (clock w.ended.disk) was closed before after log (does job (given_by (opened_of log) at)).entries id at said ⊎ (said ≡ only verdicts.NoMemory)
+  completes told was_kept none = coming.completes tells clock counts far says net origin job at start end was closed before after said w told was_kept none

@@ -3,6 +3,7 @@ pub mod Texts
 pub mod Courses
 pub mod Quiet
 pub mod Going
+pub mod Plain
 pub mod Coming
 pub mod Left
 pub mod Closed

@@ -1,28 +1,41 @@
 -- What is known of words that are read as a job.
-use Rattle.std.specs.Prelude.{◌≡◌, ℕ, List, None, IfSome}
+use Rattle.std.specs.Prelude.{◌≡◌, ◌≤◌, ℕ, None, IfSome}
 use Rattle.dm_report.specs.declared.verdict.Verdict.{Verdict}
-use Rattle.dm_report.specs.declared.verdict.Verdict.TheVariants.{BadAddress, NoMemory}
-use Rattle.dm_words.specs.Asked.{Asked, Asks, Gets, Adds, Resumes, Pauses, Cancels, Removes, Shows, Lists, WishOf}
+use Rattle.dm_report.specs.declared.verdict.Verdict.TheVariants.{BadWords, BadAddress, NoMemory}
+use Rattle.dm_words.specs.Asked.{Asked, Gets, Adds, Resumes, Pauses, Cancels, Removes, Shows, Lists, Reports, Exports, Archives, Histories, Imports, Rehearses, Serves, WishOf}
 use Rattle.dm_words.specs.Values.{IsName, IsWord}
 use Rattle.dm_answers.specs.Add.{IsOrder}
 use Rattle.dm_does.specs.declared.job.Job.{Job}
 use Rattle.dm_does.specs.declared.job.Job.TheVariants as jobs
-use Rattle.dm_does.specs.Jobs.{job_of, order_in, tells_address}
+use Rattle.dm_does.specs.Jobs.{IsElsewhere, job_of, order_in, tells_address}
 
 -- a word and a name, where they are told, keep their rules
 pub record IsGoodWish (wish : WishOf) : Type 0 where
   pub is_word : IfSome wish.word IsWord
   pub is_name : IfSome wish.name IsName
 
-abbrev pub HasGoodWish : Asked → Type 0
-HasGoodWish (Gets wish slices) = IsGoodWish wish
-HasGoodWish (Adds wish) = IsGoodWish wish
-HasGoodWish (Resumes id slices) = Unit {0}
-HasGoodWish (Pauses id) = Unit {0}
-HasGoodWish (Cancels id) = Unit {0}
-HasGoodWish (Removes id) = Unit {0}
-HasGoodWish (Shows id) = Unit {0}
-HasGoodWish Lists = Unit {0}
+-- in so many parts a content may be asked for at once
+pub record AreSlices (slices : ℕ) : Type 0 where
+  pub some : 1 ≤ slices
+  pub few : slices ≤ 16
+
+-- what is told with what is asked keeps its rules
+abbrev pub KeepsRules : Asked → Type 0
+KeepsRules (Gets wish slices) = IsGoodWish wish × AreSlices slices
+KeepsRules (Adds wish) = IsGoodWish wish
+KeepsRules (Resumes id slices) = AreSlices slices
+KeepsRules (Pauses id) = Unit {0}
+KeepsRules (Cancels id) = Unit {0}
+KeepsRules (Removes id) = Unit {0}
+KeepsRules (Shows id) = Unit {0}
+KeepsRules Lists = Unit {0}
+KeepsRules Reports = Unit {0}
+KeepsRules Exports = Unit {0}
+KeepsRules Archives = Unit {0}
+KeepsRules (Histories after limit) = Unit {0}
+KeepsRules (Imports name) = Unit {0}
+KeepsRules (Rehearses number) = Unit {0}
+KeepsRules (Serves port) = Unit {0}
 
 -- no address is read of the wish, or memory was wanting to read it
 abbrev pub RefusesWish : WishOf → Verdict → Type 0
@@ -32,45 +45,20 @@ RefusesWish wish _ = ⊥
 
 -- the same of what is asked
 abbrev pub RefusesAsked : Asked → Verdict → Type 0
-RefusesAsked asked BadAddress = job_of asked ≡ None
+RefusesAsked asked BadWords = IsElsewhere asked
+RefusesAsked asked BadAddress = (job_of asked ≡ None) × tells_address asked
 RefusesAsked asked NoMemory = tells_address asked
 RefusesAsked asked _ = ⊥
 
--- an order that is told with a job keeps its limits
+-- what is told with a job keeps its limits
 abbrev pub FitsJob : Job → Type 0
-FitsJob (jobs.Get order slices) = IsOrder order
+FitsJob (jobs.Get order slices) = IsOrder order × AreSlices slices
 FitsJob (jobs.Add order) = IsOrder order
-FitsJob (jobs.Resume id slices) = Unit {0}
+FitsJob (jobs.Resume id slices) = AreSlices slices
 FitsJob (jobs.Pause id) = Unit {0}
 FitsJob (jobs.Cancel id) = Unit {0}
 FitsJob (jobs.Remove id) = Unit {0}
 FitsJob (jobs.Show id) = Unit {0}
 FitsJob jobs.List = Unit {0}
-
--- a job that brings no item
-abbrev pub IsListJob : Job → Type 0
-IsListJob (jobs.Get order slices) = ⊥
-IsListJob (jobs.Add order) = Unit {0}
-IsListJob (jobs.Resume id slices) = ⊥
-IsListJob (jobs.Pause id) = Unit {0}
-IsListJob (jobs.Cancel id) = Unit {0}
-IsListJob (jobs.Remove id) = Unit {0}
-IsListJob (jobs.Show id) = Unit {0}
-IsListJob jobs.List = Unit {0}
-
--- words that ask for such a job, with a good address or not
-abbrev pub asks_list : Asked → Type 0
-asks_list (Gets wish slices) = ⊥
-asks_list (Adds wish) = Unit {0}
-asks_list (Resumes id slices) = ⊥
-asks_list (Pauses id) = Unit {0}
-asks_list (Cancels id) = Unit {0}
-asks_list (Removes id) = Unit {0}
-asks_list (Shows id) = Unit {0}
-asks_list Lists = Unit {0}
-
--- the words ask for a job of the list
-pub record AsksList (words : List (List ℕ)) : Type 0 where
-  pub asked : Asked
-  pub asks : Asks words asked
-  pub is : asks_list asked
+FitsJob jobs.Report = Unit {0}
+FitsJob jobs.Export = Unit {0}

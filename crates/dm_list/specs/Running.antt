@@ -20,13 +20,17 @@ use Rattle.dm_answers.specs.declared.fault.OpenFault.{OpenFault}
 use Rattle.dm_answers.specs.declared.fault.OpenFault.TheVariants as opens
 use Rattle.dm_open.specs.Refused.{OpenRefuses, RunsOn}
 use Rattle.dm_does.specs.declared.job.Job.{Job}
+use Rattle.dm_brings.specs.Bringing.{brings_of}
 use Rattle.dm_does.specs.Answering.{Answers, Bringing}
+use Rattle.dm_does.specs.Explaining.{Explains, Telling}
 use Rattle.dm_does.specs.Leaving.{KeepsAll, Leaves}
-use Rattle.dm_does.specs.Log.{Run}
+use Rattle.dm_does.specs.Log.{Run, Opened}
+use Rattle.dm_does.specs.Printing.{Outputs}
 use Rattle.dm_does.specs.World.{IsLater, World}
-use Rattle.dm_list.specs.Working.{CallGoes, Worked}
+use Rattle.dm_list.specs.Completing.{Completes}
+use Rattle.dm_list.specs.Working.{Worked}
 
--- what a run meets that makes no connection
+-- what a run meets: the disk, and the net
 abbrev pub world_of : {D : Type 0} → (D → Clock) → (D → DiskKind → ℕ) → (NetFault → ℕ) → List Closed → D → World
 world_of clock counts net_faults closed disk = record { disk = clock disk; disk_faults = counts disk; net_faults = net_faults; closed = closed }
 
@@ -43,7 +47,7 @@ ShowsOpening before after (opens.Damaged place disk) = Unit {0}
 ShowsOpening before after (opens.NoMemory disk) = Unit {0}
 
 -- The list was opened with this origin, and the job was done.
-pub record JobWorked {D O : Type 0} (tells : Type 0) (clock : D → Clock) (counts : D → DiskKind → ℕ) (far : D → ℕ) (says : O → Says) (origin : O) (job : Job) (at : ℕ) (start end : D) (said : Said) : Type 0 where
+pub record JobWorked {D O : Type 0} (tells : Type 0) (clock : D → Clock) (counts : D → DiskKind → ℕ) (far : D → ℕ) (says : O → Says) (net : Type 0) (origin : O) (job : Job) (at : ℕ) (start end : D) (was closed : List Closed) (before after : NetFault → ℕ) (said : Said) : Type 0 where
   pub opened : View D O
   pub ended : View D O
   pub end_is : end ≡ ended.disk
@@ -55,8 +59,7 @@ pub record JobWorked {D O : Type 0} (tells : Type 0) (clock : D → Clock) (coun
   -- at each moment of the opening one of the two is kept, where the start was
   pub on : tells → RunsOn (says origin) (clock start) (clock opened.disk) is.found opened.list
   pub later : NoneFell (counts start) (counts opened.disk)
-  pub worked : Worked tells clock counts job at opened ended said
-  pub goes : CallGoes tells clock counts far says opened ended
+  pub worked : Worked tells clock counts far says net job at opened ended was closed before after said
 
 -- The list couldn't be opened.
 pub record JobRefused {D : Type 0} (tells : Type 0) (clock : D → Clock) (counts : D → DiskKind → ℕ) (far : D → ℕ) (says : Says) (at : ℕ) (start end : D) (said : Said) : Type 0 where
@@ -68,18 +71,28 @@ pub record JobRefused {D : Type 0} (tells : Type 0) (clock : D → Clock) (count
   pub later : NoneFell (counts start) (counts end)
   pub shows : ShowsOpening (counts start) (counts end) fault
 
-abbrev pub JobRuns : {D O : Type 0} → Type 0 → (D → Clock) → (D → DiskKind → ℕ) → (D → ℕ) → (O → Says) → O → Job → ℕ → D → D → Said → Type 0
-JobRuns tells clock counts far says origin job at start end said =
-    JobWorked tells clock counts far says origin job at start end said ⊎ JobRefused tells clock counts far (says origin) at start end said
+-- one of both; no list that couldn't be opened had a connection
+abbrev pub JobRuns : {D O : Type 0} → Type 0 → (D → Clock) → (D → DiskKind → ℕ) → (D → ℕ) → (O → Says) → Type 0 → O → Job → ℕ → D → D → List Closed → List Closed → (NetFault → ℕ) → (NetFault → ℕ) → Said → Type 0
+JobRuns tells clock counts far says net origin job at start end was closed before after said =
+    JobWorked tells clock counts far says net origin job at start end was closed before after said
+    ⊎ (JobRefused tells clock counts far (says origin) at start end said × (closed ≡ was) × (after ≡ before))
 
--- no job of the list brings an item
-abbrev pub never : ℕ → Bringing
-never at from to id slices history fetched failed broke = ⊥
+-- the list wasn't opened
+abbrev pub IsClosed : Run → Type 0
+IsClosed (Opened log) = ⊥
+IsClosed run = Unit {0}
 
--- The clause of a run, but for what it prints.
-pub record RunsBy (brings : ℕ → Bringing) (tells : Type 0) (says : Says) (words : List (List ℕ)) (at : ℕ) (before after : World) (far far' : ℕ) (said : Said) : Type 0 where
+-- The clause of a run, but for what it prints. P is what holds besides of how far it came.
+pub record RunsBy (P : Run → Type 0) (brings : ℕ → Bringing) (tells : Type 0) (says : Says) (words : List (List ℕ)) (at : ℕ) (before after : World) (far far' : ℕ) (said : Said) : Type 0 where
   pub run : Run
   pub answers : Answers brings tells words at before after said run
   pub later : IsLater tells before after
   pub leaves : tells → Leaves before.disk after.disk far far' said.verdict run
   pub keeps : tells → (kept rest : History) → Kept true says (Through kept rest) (now before.disk) → KeepsAll says before.disk after.disk kept rest run
+  pub besides : P run
+
+-- The whole clause of a run: one verdict, one log and one moment explain it, and by the same ones it completes the item that it brings.
+pub record ExplainsAll {D O : Type 0} (tells : Telling) (clock : D → Clock) (counts : D → DiskKind → ℕ) (far : D → ℕ) (says : O → Says) (net : Type 0) (origin : O) (words : List (List ℕ)) (moment : ℕ) (start end : D) (was closed : List Closed) (before after : NetFault → ℕ)
+    (seen seen' : Outputs) (status : ℕ) : Type 0 where
+  pub explains : Explains (brings_of tells.disk clock says far counts net) tells (says origin) words moment (world_of clock counts before was start) (world_of clock counts after closed end) (far start) (far end) seen seen' status
+  pub completes : Completes tells.disk clock says far counts net origin start end was closed before after words explains.at explains.said explains.run

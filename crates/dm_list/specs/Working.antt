@@ -1,21 +1,25 @@
--- What a command does on a desk that was opened: its own part, what it says, and a sweep.
-use Rattle.std.specs.Prelude.{◌≡◌, ℕ, List, None, Result, Ok, Err, IsTrue}
+-- What a command does on a desk that was opened: its own part, an item that is brought, what it says, and a sweep.
+use Rattle.std.specs.Prelude.{◌≡◌, ℕ, true, false, List, [], None, Result, Ok, Err, IsTrue}
 use Rattle.dm_types.specs.Faults.{HasCause, NoneFell, Rose}
 use Rattle.dm_types.specs.Name.{IsPart}
 use Rattle.dm_types.specs.declared.kinds.DiskKind.{DiskKind}
 use Rattle.dm_types.specs.declared.memory.NoMemory.{NoMemory}
-use Rattle.dm_disk_model.specs.Beside.{Besides}
 use Rattle.dm_disk_model.specs.Disk.{History as Clock}
+use Rattle.dm_edge.specs.Wire.{Closed}
+use Rattle.dm_edge.specs.declared.fault.NetFault.{NetFault}
 use Rattle.dm_kept.specs.Files.{Says}
-use Rattle.dm_store.specs.Keeps.{Keeps, StaysNear}
+use Rattle.dm_store.specs.Keeps.{IsDesk}
 use Rattle.dm_store.specs.Lives.{life_in}
 use Rattle.dm_store.specs.View.{View}
 use Rattle.dm_report.specs.Said.{EndsAs, Said, only}
 use Rattle.dm_report.specs.declared.verdict.Verdict.{Verdict}
 use Rattle.dm_report.specs.declared.verdict.Verdict.TheVariants as verdicts
 use Rattle.dm_answers.specs.Faults.{desk_kind}
+use Rattle.dm_answers.specs.Frame.{Went}
 use Rattle.dm_answers.specs.Sweep.{SweepAnswers}
 use Rattle.dm_answers.specs.declared.fault.DeskFault.{DeskFault}
+use Rattle.dm_attempt.specs.Goes as calls
+use Rattle.dm_bring.specs.Bringing.{BringsOn}
 use Rattle.dm_does.specs.declared.course.Course.{Course}
 use Rattle.dm_does.specs.declared.course.Course.TheVariants.{Ends, Brings}
 use Rattle.dm_does.specs.declared.course.Show.TheVariants.{Nothing}
@@ -27,11 +31,8 @@ use Rattle.dm_does.specs.declared.job.Job.{Job}
 use Rattle.dm_does.proofs.Decisions.{given_of}
 
 -- what every call on a desk keeps: the crash clause, the user's files but parts, the counts, and the count of far writes
-pub record CallGoes {D O : Type 0} (tells : Type 0) (clock : D → Clock) (counts : D → DiskKind → ℕ) (far : D → ℕ) (says : O → Says) (old new : View D O) : Type 0 where
-  pub keeps : Keeps tells clock says old new
-  pub beside : tells → Besides IsPart (clock old.disk) (clock new.disk)
-  pub later : NoneFell (counts old.disk) (counts new.disk)
-  pub near : StaysNear (far old.disk) (far new.disk) old new
+abbrev pub CallGoes : {D O : Type 0} → Type 0 → (D → Clock) → (D → DiskKind → ℕ) → (D → ℕ) → (O → Says) → View D O → View D O → Type 0
+CallGoes tells clock counts far says old new = calls.CallGoes tells clock says far counts IsPart old new
 
 -- where the course is that a call on the disk failed, the count of its kind rose
 abbrev pub ShowsFault : (DiskKind → ℕ) → (DiskKind → ℕ) → Course → Type 0
@@ -42,13 +43,6 @@ ShowsFault before after (Brings id slices) = Unit {0}
 -- no attempt runs on the desk
 abbrev pub HasNoLife : {D O : Type 0} → View D O → Type 0
 HasNoLife desk = (id : ℕ) → life_in id desk.lives ≡ None
-
--- nothing of the desk changed but the disk
-pub record IsStill {D O : Type 0} (old new : View D O) : Type 0 where
-  pub items : new.items ≡ old.items
-  pub list : new.list ≡ old.list
-  pub failed : new.failed ≡ old.failed
-  pub broken : new.broken ≡ old.broken
 
 -- a failed call on the disk is told, also where memory is wanting
 abbrev pub SaysFailure : Course → Said → Type 0
@@ -61,17 +55,29 @@ pub record Swept {D O : Type 0} (tells : Type 0) (clock : D → Clock) (counts :
   pub answers : SweepAnswers tells clock old new answer
   pub cause : HasCause desk_kind (counts old.disk) (counts new.disk) answer
 
--- A job's own part was done on a desk, then what it says was said of the items, and then parts were removed, where the job is one that sweeps.
-pub record Worked {D O : Type 0} (tells : Type 0) (clock : D → Clock) (counts : D → DiskKind → ℕ) (job : Job) (at : ℕ) (old new : View D O) (said : Said) : Type 0 where
+-- A job's own part was done on a desk, and then the item was brought, where the course is that one is brought. What the command says was said of the items as they were then, and
+-- parts that none needs were removed, where the job is one that sweeps.
+pub record Worked {D O : Type 0} (tells : Type 0) (clock : D → Clock) (counts : D → DiskKind → ℕ) (far : D → ℕ) (says : O → Says) (net : Type 0) (job : Job) (at : ℕ) (old new : View D O) (was closed : List Closed) (before after : NetFault → ℕ) (said : Said) : Type 0 where
+  -- the job's own part
   pub course : Course
+  pub decided : View D O
+  pub decides : Decides (does job (given_of old at)) old decided course
+  pub desk : IsDesk tells clock decided
+  pub own : CallGoes tells clock counts far says old decided
+  pub shows : ShowsFault (counts old.disk) (counts decided.disk) course
+  -- what is brought, and how the course goes on then
+  pub onward : Course
   pub between : View D O
-  pub decides : Decides (does job (given_of old at)) old between course
-  pub shows : ShowsFault (counts old.disk) (counts between.disk) course
-  pub says : EndsAs (said_by between.items.items course) said
-  pub fails : SaysFailure course said
-  pub still : IsStill between new
-  pub earlier : NoneFell (counts old.disk) (counts between.disk)
-  pub later : NoneFell (counts between.disk) (counts new.disk)
+  pub brings : BringsOn tells clock counts far says net decided between was closed before after at course onward
+  pub net_later : NoneFell before after
+  pub unfailed : between.broken ≡ false → between.failed ≡ []
+  -- what is said
+  pub says_is : EndsAs (said_by between.items.items onward) said
+  pub fails : SaysFailure onward said
+  -- what is removed
+  pub went : between.broken ≡ false → Went between new [] [] false
+  pub stays : between.broken ≡ true → new ≡ between
+  pub behind : CallGoes tells clock counts far says between new
   pub swept : IsTrue (sweeps job) → Swept tells clock counts between new
 
 -- the ending with this text, or that memory was wanting for it

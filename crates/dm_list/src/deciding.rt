@@ -1,17 +1,20 @@
 //! A job's own part: the desk's call, and the course that the command takes by its answer.
-ghost use Rattle.std.specs.Prelude.{◌≡◌, ℕ, false, None};
+ghost use Rattle.std.specs.Prelude.{◌≡◌, ℕ, false, Some, None};
+ghost use Rattle.dm_types.specs.declared.item.Item.{Item};
+ghost use Rattle.dm_item.specs.Listing.{item_in};
+ghost use Rattle.dm_item.specs.Row.{is_complete};
 ghost use Rattle.dm_report.specs.declared.verdict.Verdict.TheVariants.{Done};
 ghost use Rattle.dm_answers.specs.Add.{IsOrder};
-ghost use Rattle.dm_does.specs.declared.course.Course.TheVariants.{Ends};
+ghost use Rattle.dm_does.specs.declared.course.Course.TheVariants.{Brings, Ends};
 ghost use Rattle.dm_does.specs.declared.course.Show.TheVariants.{Line};
 ghost use Rattle.dm_does.specs.declared.job.Job.TheVariants as jobs;
 ghost use Rattle.dm_does.specs.Deciding.{Decides, course_of, course_of_fault, course_of_order};
-ghost use Rattle.dm_does.specs.Doing.{does};
+ghost use Rattle.dm_does.specs.Doing.{does, goes_on};
 ghost use Rattle.dm_does.proofs.Decisions.{given_of};
 ghost use Rattle.dm_store.specs.Keeps.{IsDesk};
 ghost use Rattle.dm_store.specs.Lives.{life_in};
 ghost use Rattle.dm_store.specs.Origin.{said_of};
-ghost use Rattle.dm_list.specs.Reading.{FitsJob, IsListJob};
+ghost use Rattle.dm_list.specs.Reading.{FitsJob};
 ghost use Rattle.dm_list.specs.Working.{CallGoes, HasNoLife, ShowsFault};
 
 use dm_answers::{DeskFault, Order, Taken};
@@ -20,7 +23,7 @@ use dm_does::{Course, Job, Show};
 use dm_edge::Origin;
 use dm_items::Desk;
 use dm_report::Verdict;
-use dm_types::ItemId;
+use dm_types::{ItemId, Phase};
 
 /// How a command ends that is refused so. Faults that no call of a list gives are told as want of memory.
 fn course_of_fault(fault: DeskFault) -> Course
@@ -76,8 +79,8 @@ fn show<D: Disk, O: Origin>(desk: &Desk<D, O>, id: ItemId) -> Course
     }
 }
 
-/// `add`.
-fn add<D: Disk, O: Origin>(desk: &mut Desk<D, O>, order: Order, at: u64) -> Course
+/// `add`, as a job's own part: the desk's call, and the course by its answer.
+pub fn add<D: Disk, O: Origin>(desk: &mut Desk<D, O>, order: Order, at: u64) -> Course
     requires order { IsOrder order }
     requires whole { desk.old.broken ≡ false }
     requires desk { IsDesk D.tells D.history desk.old }
@@ -127,10 +130,73 @@ fn remove<D: Disk, O: Origin>(desk: &mut Desk<D, O>, id: ItemId) -> Course
     course_of_change(Show::Nothing, answer)
 }
 
+/// The course by the answer to a resumption: the item is brought.
+fn course_of_resume(id: ItemId, slices: u32, answer: Result<(), DeskFault>) -> Course
+    ensures { result ≡ course_of (Brings id slices) answer }
+{
+    match answer {
+        Ok(()) => Course::Brings(id, slices),
+        Err(fault) => course_of_fault(fault),
+    }
+}
+
+/// `resume`.
+fn resume<D: Disk, O: Origin>(desk: &mut Desk<D, O>, id: ItemId, slices: u32) -> Course
+    requires whole { desk.old.broken ≡ false }
+    ensures kept { IsDesk D.tells D.history desk.new }
+    ensures decides { (at : ℕ) → Decides (does (jobs.Resume id slices) (given_of desk.old at)) desk.old desk.new result }
+    ensures goes { CallGoes D.tells D.history D.faults D.far (λ o. said_of (O.says o)) desk.old desk.new }
+    ensures shows { ShowsFault (D.faults desk.old.disk) (D.faults desk.new.disk) result }
+{
+    let answer = desk.resume(id);
+    course_of_resume(id, slices, answer)
+}
+
+/// Whether the item with the id is complete, where there is one.
+fn is_complete<D: Disk, O: Origin>(desk: &Desk<D, O>, id: ItemId) -> bool
+    ensures { (item : Item) → item_in id.0 desk.now.items.items ≡ Some item → result ≡ is_complete item.phase }
+{
+    match desk.view(id) {
+        Some(item) => item.phase == Phase::Complete,
+        None => false,
+    }
+}
+
+/// Goes on with an item that has the order's word: a complete one is shown, and every other one is brought.
+fn go_on<D: Disk, O: Origin>(desk: &mut Desk<D, O>, id: ItemId, slices: u32) -> Course
+    requires whole { desk.old.broken ≡ false }
+    requires desk { IsDesk D.tells D.history desk.old }
+    ensures kept { IsDesk D.tells D.history desk.new }
+    ensures decides { (item : Item) → item_in id.0 desk.old.items.items ≡ Some item → Decides (goes_on slices item) desk.old desk.new result }
+    ensures goes { CallGoes D.tells D.history D.faults D.far (λ o. said_of (O.says o)) desk.old desk.new }
+    ensures shows { ShowsFault (D.faults desk.old.disk) (D.faults desk.new.disk) result }
+{
+    if is_complete(desk, id) {
+        return Course::Ends(Verdict::Done, Show::Line(id));
+    }
+    resume(desk, id, slices)
+}
+
+/// `get`: a new item is brought, and with one that is there already it goes on.
+fn get<D: Disk, O: Origin>(desk: &mut Desk<D, O>, order: Order, slices: u32, at: u64) -> Course
+    requires order { IsOrder order }
+    requires whole { desk.old.broken ≡ false }
+    requires desk { IsDesk D.tells D.history desk.old }
+    ensures kept { IsDesk D.tells D.history desk.new }
+    ensures decides { Decides (does (jobs.Get order slices) (given_of desk.old at)) desk.old desk.new result }
+    ensures goes { CallGoes D.tells D.history D.faults D.far (λ o. said_of (O.says o)) desk.old desk.new }
+    ensures shows { ShowsFault (D.faults desk.old.disk) (D.faults desk.new.disk) result }
+{
+    match desk.add(order, at) {
+        Ok(Taken::New(id)) => Course::Brings(id, slices),
+        Ok(Taken::Same(id)) => go_on(desk, id, slices),
+        Err(fault) => course_of_fault(fault),
+    }
+}
+
 /// Does a job's own part on a desk that was just opened, and says how the command goes on. `at` is the moment
 /// in milliseconds since 1970.
 pub(crate) fn decide<D: Disk, O: Origin>(desk: &mut Desk<D, O>, job: Job, at: u64) -> Course
-    requires job { IsListJob job }
     requires fits { FitsJob job }
     requires whole { desk.old.broken ≡ false }
     requires desk { IsDesk D.tells D.history desk.old }
@@ -142,12 +208,14 @@ pub(crate) fn decide<D: Disk, O: Origin>(desk: &mut Desk<D, O>, job: Job, at: u6
 {
     match job {
         Job::List => Course::Ends(Verdict::Done, Show::Lines),
+        Job::Report => Course::Ends(Verdict::Done, Show::Counts),
+        Job::Export => Course::Ends(Verdict::Done, Show::Records),
         Job::Show(id) => show(desk, id),
         Job::Add(order) => add(desk, order, at),
         Job::Pause(id) => pause(desk, id),
         Job::Cancel(id) => cancel(desk, id),
         Job::Remove(id) => remove(desk, id),
-        Job::Get(_, _) => unreachable!(),
-        Job::Resume(_, _) => unreachable!(),
+        Job::Get(order, slices) => get(desk, order, slices, at),
+        Job::Resume(id, slices) => resume(desk, id, slices),
     }
 }

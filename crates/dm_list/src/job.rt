@@ -1,7 +1,7 @@
 ghost use Rattle.std.specs.Prelude.{◌≡◌, Some, IfOk, IfErr};
 ghost use Rattle.dm_words.specs.Asked.{asked};
 ghost use Rattle.dm_does.specs.Jobs.{HasJob, RefusesWords, job_of};
-ghost use Rattle.dm_list.specs.Reading.{FitsJob, HasGoodWish, RefusesAsked};
+ghost use Rattle.dm_list.specs.Reading.{FitsJob, KeepsRules, RefusesAsked};
 
 use crate::order::read_order;
 use dm_does::Job;
@@ -25,7 +25,7 @@ pub fn read_job(alloc: Global, words: &[Text]) -> Result<Job, Verdict>
 
 /// The job of a command.
 fn make_job(alloc: Global, command: Command<'_>) -> Result<Job, Verdict>
-    requires { HasGoodWish (asked command) }
+    requires { KeepsRules (asked command) }
     ensures ok { IfOk result (λ job. job_of (asked command.entry) ≡ Some job) }
     ensures fits { IfOk result FitsJob }
     ensures refused { IfErr result (RefusesAsked (asked command.entry)) }
@@ -45,5 +45,12 @@ fn make_job(alloc: Global, command: Command<'_>) -> Result<Job, Verdict>
         Command::Remove(id) => Ok(Job::Remove(id)),
         Command::Show(id) => Ok(Job::Show(id)),
         Command::List => Ok(Job::List),
+        Command::Report => Ok(Job::Report),
+        Command::Export => Ok(Job::Export),
+        Command::Archive => Err(Verdict::BadWords),
+        Command::History(_, _) => Err(Verdict::BadWords),
+        Command::Import(_) => Err(Verdict::BadWords),
+        Command::Rehearse(_) => Err(Verdict::BadWords),
+        Command::Serve(_) => Err(Verdict::BadWords),
     }
 }

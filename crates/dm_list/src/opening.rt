@@ -10,13 +10,13 @@ use std::alloc::Global;
 
 /// A run that is over but for what it prints.
 #[derive(Debug, Drop)]
-pub(crate) struct Over<D> {
-    pub(crate) ending: Ending,
-    pub(crate) disk: D,
+pub struct Over<D> {
+    pub ending: Ending,
+    pub disk: D,
 }
 
 /// How a command ends whose list can't be opened.
-pub(crate) fn refuse<D>(alloc: Global, fault: OpenFault<D>) -> Over<D>
+pub fn refuse<D>(alloc: Global, fault: OpenFault<D>) -> Over<D>
     ensures disk { result.disk ≡ disk_in fault }
     ensures says { SaysRefusal fault result.ending }
 {

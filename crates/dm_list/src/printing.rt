@@ -1,7 +1,8 @@
 //! What a command says is written to both outputs.
+ghost use Rattle.std.specs.Prelude.{IfOk};
 ghost use Rattle.dm_types.specs.Faults.{HasCause};
 ghost use Rattle.dm_edge.specs.Faults.{edge_kind};
-ghost use Rattle.dm_does.specs.Printing.{Prints};
+ghost use Rattle.dm_does.specs.Printing.{Prints, SameCounts};
 ghost use Rattle.dm_list.specs.Writing.{WritesAll, outputs_of};
 
 use dm_edge::{EdgeFault, Sink};
@@ -11,6 +12,7 @@ use dm_report::Ending;
 pub fn write_all<S: Sink>(sink: &mut S, text: &[u8]) -> Result<(), EdgeFault>
     ensures written { S.tells → WritesAll (S.written sink.old) (S.written sink.new) result text.now }
     ensures cause { HasCause edge_kind (S.faults sink.old) (S.faults sink.new) result }
+    ensures quiet { IfOk result (λ _. SameCounts (S.faults sink.old) (S.faults sink.new)) }
 {
     let mut rest = text;
     while !rest.is_empty() {

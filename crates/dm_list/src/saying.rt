@@ -11,7 +11,7 @@ ghost use Rattle.dm_list.specs.Working.{EndsWithText, SaysFailure};
 
 use dm_does::{Course, Show};
 use dm_item::Items;
-use dm_report::{Ending, Verdict, item_line, item_text};
+use dm_report::{Ending, Verdict, csv_export, item_line, item_text, report_text};
 use dm_types::{DiskKind, Item, NoMemory, Phase, Reason, Text};
 use std::alloc::Global;
 
@@ -63,6 +63,8 @@ fn shown(alloc: Global, items: &Items, show: Show) -> Result<Text, NoMemory>
         Show::Line(id) => line_of(alloc, items.get(id)),
         Show::Lines => item_lines(alloc, items.items()),
         Show::Whole(id) => text_of(alloc, items.get(id)),
+        Show::Counts => report_text(alloc, items),
+        Show::Records => csv_export(alloc, items),
     }
 }
 

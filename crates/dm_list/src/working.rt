@@ -1,16 +1,18 @@
 //! What a command does on a list that was opened.
-ghost use Rattle.std.specs.Prelude.{◌≡◌, true, false, IsTrue};
+ghost use Rattle.std.specs.Prelude.{◌≡◌, true, false, [], IsTrue};
 ghost use Rattle.dm_does.specs.Sweeping.{sweeps};
 ghost use Rattle.dm_store.specs.Keeps.{IsDesk};
 ghost use Rattle.dm_store.specs.Origin.{said_of};
-ghost use Rattle.dm_list.specs.Reading.{FitsJob, IsListJob};
-ghost use Rattle.dm_list.specs.Working.{CallGoes, HasNoLife, IsStill, Swept, Worked};
+ghost use Rattle.dm_answers.specs.Frame.{Went};
+ghost use Rattle.dm_list.specs.Reading.{FitsJob};
+ghost use Rattle.dm_list.specs.Working.{CallGoes, HasNoLife, Swept, Worked};
 
 use crate::deciding::decide;
 use crate::saying::say;
+use dm_bring::bring;
 use dm_disk_model::Disk;
 use dm_does::Job;
-use dm_edge::Origin;
+use dm_edge::{Net, Origin};
 use dm_items::Desk;
 use dm_report::Ending;
 use std::alloc::Global;
@@ -28,14 +30,16 @@ fn sweeps(job: &Job) -> bool
         Job::Pause(_) => false,
         Job::Show(_) => false,
         Job::List => false,
+        Job::Report => false,
+        Job::Export => false,
     }
 }
 
 /// Removes the parts that none needs. A fault is passed over: the next opening removes them.
 fn sweep<D: Disk, O: Origin>(desk: &mut Desk<D, O>)
     requires desk { IsDesk D.tells D.history desk.old }
-    ensures still { IsStill desk.old desk.new }
-    ensures broken { desk.old.broken ≡ true → desk.new ≡ desk.old }
+    ensures went { desk.old.broken ≡ false → Went desk.old desk.new [] [] false }
+    ensures stays { desk.old.broken ≡ true → desk.new ≡ desk.old }
     ensures goes { CallGoes D.tells D.history D.faults D.far (λ o. said_of (O.says o)) desk.old desk.new }
     ensures swept { Swept D.tells D.history D.faults desk.old desk.new }
 {
@@ -45,8 +49,8 @@ fn sweep<D: Disk, O: Origin>(desk: &mut Desk<D, O>)
 /// The same where the job is one behind which parts are removed.
 fn sweep_if<D: Disk, O: Origin>(desk: &mut Desk<D, O>, sweeps: bool)
     requires desk { IsDesk D.tells D.history desk.old }
-    ensures still { IsStill desk.old desk.new }
-    ensures broken { desk.old.broken ≡ true → desk.new ≡ desk.old }
+    ensures went { desk.old.broken ≡ false → Went desk.old desk.new [] [] false }
+    ensures stays { desk.old.broken ≡ true → desk.new ≡ desk.old }
     ensures goes { CallGoes D.tells D.history D.faults D.far (λ o. said_of (O.says o)) desk.old desk.new }
     ensures swept { IsTrue sweeps → Swept D.tells D.history D.faults desk.old desk.new }
 {
@@ -55,24 +59,27 @@ fn sweep_if<D: Disk, O: Origin>(desk: &mut Desk<D, O>, sweeps: bool)
     }
 }
 
-/// Does a job on a desk that was just opened. `at` is the moment in milliseconds since 1970.
-pub(crate) fn work<D: Disk, O: Origin>(
+/// Does a job on a desk that was just opened, over a net with the desk's origin. `turns` says which open
+/// connection is read next, and they go round where it is empty; `at` is the moment in milliseconds since 1970.
+pub fn work<D: Disk, N: Net>(
     alloc: Global,
-    desk: &mut Desk<D, O>,
+    desk: &mut Desk<D, N::O>,
+    net: &mut N,
     job: Job,
+    turns: &[u8],
     at: u64,
 ) -> Ending
-    requires job { IsListJob job }
     requires fits { FitsJob job }
     requires whole { desk.old.broken ≡ false }
     requires desk { IsDesk D.tells D.history desk.old }
     requires idle { HasNoLife desk.old }
-    ensures worked { Worked D.tells D.history D.faults job at desk.old desk.new result }
-    ensures goes { CallGoes D.tells D.history D.faults D.far (λ o. said_of (O.says o)) desk.old desk.new }
+    requires origin { N.origin_of net.old ≡ desk.old.origin }
+    ensures { Worked D.tells D.history D.faults D.far (λ o. said_of (N.O.says o)) N.tells job at desk.old desk.new (N.closed net.old) (N.closed net.new) (N.faults net.old) (N.faults net.new) result }
 {
     let sweeps = sweeps(&job);
-    let course = decide(desk, job, at);
-    let ending = say(alloc, desk.items(), course);
+    let decided = decide(desk, job, at);
+    let onward = bring(alloc, desk, net, decided, turns, at);
+    let ending = say(alloc, desk.items(), onward);
     sweep_if(desk, sweeps);
     ending
 }

@@ -1,7 +1,10 @@
-// How commands of the list are run on a disk in memory.
+// How commands of the list are run on a disk and a net in memory.
+ghost use Rattle.std.specs.Prelude.{All, IfOk};
+ghost use Rattle.dm_edge.specs.Script.{IsGood};
+
 use dm_disk::{Area, Disk, DiskFault, FailingCall, MemoryDisk, Place};
-use dm_edge::{ClockList, EveryByte, SinkMem};
-use dm_list::{asks_list, run_list};
+use dm_edge::{ClockList, NetScript, SinkMem, WireScript, WireScripts};
+use dm_list::run_list;
 use dm_types::{DiskKind, Listed, NoMemory, Text};
 use std::alloc::Global;
 use std::test::Fail;
@@ -39,22 +42,53 @@ fn texts(alloc: Global, words: &[&[u8]]) -> Result<Vec<Text>, NoMemory> {
     Ok(list)
 }
 
-/// Runs a command of the list at moment 0, with room for so many bytes on standard output.
-pub(crate) fn run_with_room(
+fn script(alloc: Global, stream: &[u8]) -> Result<WireScript, NoMemory>
+    ensures { IfOk result IsGood }
+{
+    Ok(WireScript {
+        stream: Text::from_bytes(alloc, stream)?,
+        cuts: Listed::new(alloc),
+        failing: Listed::new(alloc),
+    })
+}
+
+fn scripts(alloc: Global, streams: &[&[u8]]) -> Result<WireScripts, NoMemory>
+    ensures { IfOk result (All IsGood) }
+{
+    let mut wires = Listed::new(alloc);
+    for stream in streams {
+        wires.push(script(alloc, stream)?)?;
+    }
+    Ok(wires)
+}
+
+/// A net whose connections say these streams. A connect past them finds no route.
+pub(crate) fn net(alloc: Global, streams: &[&[u8]]) -> Result<NetScript, NoMemory> {
+    let wires = scripts(alloc, streams)?;
+    NetScript::new(wires, Listed::new(alloc))
+}
+
+/// Runs a command over a net at moment 0, with room for so many bytes on standard output.
+pub(crate) fn run_over(
     alloc: Global,
     words: &[&[u8]],
     disk: MemoryDisk,
+    net: &mut NetScript,
     room: u64,
 ) -> Result<Outcome, Fail> {
     let words = texts(alloc, words)?;
-    if !asks_list(&words) {
-        return Err("no command of the list".into());
-    }
     let mut clock = ClockList::new(alloc, &[0])?;
     let mut out = SinkMem::new(alloc, room, &[])?;
     let mut errs = SinkMem::new(alloc, 1000, &[])?;
     let ran = run_list(
-        alloc, &words, disk, EveryByte, &mut clock, &mut out, &mut errs,
+        alloc,
+        &words,
+        &[],
+        disk,
+        net,
+        &mut clock,
+        &mut out,
+        &mut errs,
     );
     Ok(Outcome {
         status: ran.status,
@@ -62,6 +96,17 @@ pub(crate) fn run_with_room(
         errs: Text::from_bytes(alloc, errs.written())?,
         disk: ran.disk,
     })
+}
+
+/// Runs a command that finds no server.
+pub(crate) fn run_with_room(
+    alloc: Global,
+    words: &[&[u8]],
+    disk: MemoryDisk,
+    room: u64,
+) -> Result<Outcome, Fail> {
+    let mut net = net(alloc, &[])?;
+    run_over(alloc, words, disk, &mut net, room)
 }
 
 pub(crate) fn run(alloc: Global, words: &[&[u8]], disk: MemoryDisk) -> Result<Outcome, Fail> {
@@ -102,6 +147,15 @@ pub(crate) fn disk(
     MemoryDisk::new(alloc, calls, stop_after)
 }
 
+/// The place of one of the user's files.
+pub(crate) fn file(alloc: Global, name: &[u8]) -> Result<Place, NoMemory> {
+    let name = Text::from_bytes(alloc, name)?;
+    Ok(Place {
+        area: Area::Files,
+        name,
+    })
+}
+
 /// The place of the journal.
 pub(crate) fn home(alloc: Global) -> Result<Place, NoMemory> {
     let name = Text::from_bytes(alloc, b"journal")?;
@@ -111,7 +165,7 @@ pub(crate) fn home(alloc: Global) -> Result<Place, NoMemory> {
     })
 }
 
-/// Puts a file under a name of the journal's folder.
+/// Makes a file with these bytes.
 pub(crate) fn put(disk: &mut MemoryDisk, place: &Place, bytes: &[u8]) -> Result<(), DiskFault> {
     match disk.length(place)? {
         None => disk.create(place)?,

@@ -1,9 +1,11 @@
-//! The commands of the list on a disk in memory: what they print, what the journal then holds, and what is
-//! left where they stop.
+//! The commands of the list on a disk and a net in memory: what they print, what the journal then holds, which
+//! files stand, and what is left where they stop.
 #![tactic(auto)]
 
 #[cfg(test)]
 mod bench;
+#[cfg(test)]
+mod brought;
 #[cfg(test)]
 mod changes;
 #[cfg(test)]
@@ -12,3 +14,5 @@ mod limit;
 mod rows;
 #[cfg(test)]
 mod stops;
+#[cfg(test)]
+mod swept;

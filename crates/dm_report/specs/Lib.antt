@@ -2,3 +2,5 @@ pub mod Texts
 pub mod Lines
 pub mod Verdict
 pub mod Said
+pub mod Report
+pub mod Csv

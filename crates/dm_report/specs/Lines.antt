@@ -50,3 +50,13 @@ items_full_line count = line (codes "items full " ++ decimal count)
 -- word of item <id>
 abbrev pub word_taken_line : ℕ → List ℕ
 word_taken_line id = line (codes "word of item " ++ decimal id)
+
+-- import <number>
+abbrev pub import_line : ℕ → List ℕ
+import_line number = line (codes "import " ++ decimal number)
+
+abbrev pub not_accepted_line : List ℕ
+not_accepted_line = line (codes "accept failed")
+
+abbrev pub history_failed_line : List ℕ
+history_failed_line = line (codes "history failed")

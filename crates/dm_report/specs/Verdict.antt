@@ -1,8 +1,8 @@
 -- How a command ended: the status, and the line on standard error.
 use Rattle.std.specs.Prelude.{ℕ, List, []}
-use Rattle.dm_report.specs.Lines.{bad_address_line, bad_words_line, disk_line, interrupted_line, items_full_line, journal_damaged_line, no_item_line, no_memory_line, state_line, word_taken_line}
+use Rattle.dm_report.specs.Lines.{bad_address_line, bad_words_line, disk_line, history_failed_line, import_line, interrupted_line, items_full_line, journal_damaged_line, no_item_line, no_memory_line, not_accepted_line, state_line, word_taken_line}
 use Rattle.dm_report.specs.declared.verdict.Verdict.{Verdict}
-use Rattle.dm_report.specs.declared.verdict.Verdict.TheVariants.{Done, Interrupted, BadWords, BadAddress, NoItem, WrongState, Damaged, DiskFailed, ItemsFull, NoMemory, OtherWord}
+use Rattle.dm_report.specs.declared.verdict.Verdict.TheVariants.{Done, Interrupted, BadWords, BadAddress, NoItem, WrongState, Damaged, DiskFailed, ItemsFull, NoMemory, OtherWord, BadImport, NotAccepted, HistoryFailed}
 
 -- what the program ends with, unless a write fails
 abbrev pub status_of : Verdict → ℕ
@@ -17,6 +17,9 @@ status_of (DiskFailed kind) = 6
 status_of (ItemsFull count) = 8
 status_of NoMemory = 9
 status_of (OtherWord id) = 10
+status_of (BadImport number) = 11
+status_of NotAccepted = 12
+status_of HistoryFailed = 13
 
 -- the line on standard error, or nothing
 abbrev pub errs_of : Verdict → List ℕ
@@ -31,6 +34,9 @@ errs_of (DiskFailed kind) = disk_line kind
 errs_of (ItemsFull count) = items_full_line count
 errs_of NoMemory = no_memory_line
 errs_of (OtherWord id) = word_taken_line id.0
+errs_of (BadImport number) = import_line number
+errs_of NotAccepted = not_accepted_line
+errs_of HistoryFailed = history_failed_line
 
 -- the line has something that is told with the verdict, so it takes memory
 abbrev pub IsMade : Verdict → Type 0
@@ -45,3 +51,6 @@ IsMade (DiskFailed kind) = ⊥
 IsMade (ItemsFull count) = Unit {0}
 IsMade NoMemory = ⊥
 IsMade (OtherWord id) = Unit {0}
+IsMade (BadImport number) = Unit {0}
+IsMade NotAccepted = ⊥
+IsMade HistoryFailed = ⊥

@@ -157,6 +157,9 @@ fn lines_of_verdicts(rt: HostRuntime) -> Result<(), Fail> {
         (Verdict::ItemsFull(4096), 8, b"items full 4096\n"),
         (Verdict::NoMemory, 9, b"no memory\n"),
         (Verdict::OtherWord(ItemId(1)), 10, b"word of item 1\n"),
+        (Verdict::BadImport(2), 11, b"import 2\n"),
+        (Verdict::NotAccepted, 12, b"accept failed\n"),
+        (Verdict::HistoryFailed, 13, b"history failed\n"),
     ];
     let alloc = rt.alloc();
     for (verdict, status, line) in rows {

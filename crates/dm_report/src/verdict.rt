@@ -33,6 +33,13 @@ pub enum Verdict {
     NoMemory,
     /// The item of this id has the word, and another address.
     OtherWord(ItemId),
+    /// The record of this number can't be imported, the first counted as 1. It is 0 where the file doesn't stand, is too
+    /// long or has another header.
+    BadImport(u32),
+    /// No connection was accepted.
+    NotAccepted,
+    /// A call on the history failed.
+    HistoryFailed,
 }
 
 /// The status that the program ends with, unless a write fails.
@@ -51,6 +58,9 @@ pub fn status_of(verdict: Verdict) -> u8
         Verdict::ItemsFull(_) => 8,
         Verdict::NoMemory => 9,
         Verdict::OtherWord(_) => 10,
+        Verdict::BadImport(_) => 11,
+        Verdict::NotAccepted => 12,
+        Verdict::HistoryFailed => 13,
     }
 }
 
@@ -82,6 +92,9 @@ pub(crate) fn line_of_fixed(verdict: Verdict) -> Option<&'static [u8]>
         Verdict::ItemsFull(_) => None,
         Verdict::NoMemory => Some(b"no memory\n"),
         Verdict::OtherWord(_) => None,
+        Verdict::BadImport(_) => None,
+        Verdict::NotAccepted => Some(b"accept failed\n"),
+        Verdict::HistoryFailed => Some(b"history failed\n"),
     }
 }
 
@@ -123,6 +136,9 @@ pub(crate) fn made_line(alloc: Global, verdict: Verdict) -> Result<Text, NoMemor
         Verdict::ItemsFull(count) => numbered_line(alloc, b"items full ", u64::from(count)),
         Verdict::NoMemory => Ok(Text::new(alloc)),
         Verdict::OtherWord(id) => numbered_line(alloc, b"word of item ", u64::from(id.0)),
+        Verdict::BadImport(number) => numbered_line(alloc, b"import ", u64::from(number)),
+        Verdict::NotAccepted => Ok(Text::new(alloc)),
+        Verdict::HistoryFailed => Ok(Text::new(alloc)),
     }
 }
 

@@ -1,5 +1,5 @@
 -- An attempt that brings its content anew, as its trace tells it.
-use Rattle.std.proofs.Common.{◌≡◌, ◌≢◌, ◌⊎◌, inl, inr, ◌≤◌, ℕ, List, [], ◌∷◌, ◌++◌, length, drop, Option, Some, None, Result, Ok, Err, IsTrue, refl, sym, ◌∙◌, ap, subst, arith, append_assoc}
+use Rattle.std.proofs.Common.{◌≡◌, ◌⊎◌, inl, inr, ◌≤◌, ◌^◌, ℕ, List, [], ◌∷◌, ◌++◌, length, drop, Option, Some, None, Result, Ok, Err, IsTrue, refl, sym, ◌∙◌, ap, subst, arith, append_assoc}
 use Rattle.std.specs.Prelude.{IfSome}
 use Rattle.std.specs.List.{Contains}
 use Rattle.std.proofs.lemmas.List.{append-nil}
@@ -31,7 +31,7 @@ use Rattle.dm_attempt.specs.Ending.{IfBroke, IsOfDesk, StopHolds}
 use Rattle.dm_attempt.specs.Ends.{tale_of}
 use Rattle.dm_attempt.specs.Live.{LiveDesk}
 use Rattle.dm_attempt.specs.Scene.{Scene}
-use Rattle.dm_attempt.specs.Trace.{Round, Tale, Trace, told_with, untold}
+use Rattle.dm_attempt.specs.Trace.{Round, Tale, Trace, told_with, untold, wires_of}
 use Rattle.dm_rounds.specs.declared.first.Reply.{Reply}
 use Rattle.dm_rounds.specs.Beginning.{IsBefore, IsNamedAs, NotPlanned}
 use Rattle.dm_rounds.specs.First.{FreshEnds, FreshLeaves, FreshStops, IsHeard, IsFreshTrace, IsLedAndLost, IsLedTo, IsLostAt, IsReplied, IsTold, IsWished, StopsFirst, ToldRounds, first_asking}
@@ -84,6 +84,7 @@ module _ {D O : Type 0} (tells : Type 0) (clock : D → Clock) (says : O → Say
       named = is.named;
       key_is = is.key_is;
       total_is = is.total_is;
+      small = is.small;
       modified_is = is.modified_is;
       count_is = from.count_is ∙ is.count_is;
       reads = is.reads;
@@ -91,24 +92,25 @@ module _ {D O : Type 0} (tells : Type 0) (clock : D → Clock) (says : O → Say
     }
 
     -- what the trace tells of the first reply stays
-    pub fresh_later : (older trace : Trace) → GoesFrom older trace → Fresh older → Fresh trace
-    fresh_later older trace from is = record {
+    pub fresh_later : (older trace : Trace) → GoesFrom older trace → (wires_of trace.rounds ≡ []) ⊎ (trace.lost ≡ []) → Fresh older → Fresh trace
+    fresh_later older trace from alone is = record {
       led = λ n. subst (λ (l : List Closed). IsLedAndLost pass first (l ++ trace.lost)) (sym from.led_is) (subst (λ (l : List Closed). IsLedAndLost pass first (older.led ++ l)) (sym from.lost_is) (is.led n));
+      alone = alone;
       wished = subst (λ (w : Option (List ℕ)). IfSome w (IsWished handed)) (sym from.wish_is) is.wished;
       told = subst (λ (t : Option Tale). IfSome t (IsTold tells clock net old pass first handed slices trace)) (sym from.told_is) (IfSome_then older.told is.told (told_later older trace from));
     }
 
-    module _ (present : View D O) (closed : List Closed) (older : Trace) (tale : Tale) (told_is : older.told ≡ Some tale) (fresh : Fresh older) where
+    module _ (present : View D O) (closed : List Closed) (older : Trace) (tale : Tale) (told_is : older.told ≡ Some tale) (none_lost : older.lost ≡ []) (fresh : Fresh older) where
       told_rounds : (P : Asking → List Round → Type 0) (trace : Trace) → GoesFrom older trace → P (first_asking pass tale) trace.rounds → ToldRounds P pass trace.told trace.rounds
       told_rounds P trace from are = subst (λ (t : Option Tale). ToldRounds P pass t trace.rounds) (sym (from.told_is ∙ told_is)) are
 
       pub fresh_ends : RunEnds tells clock says far counts net scene pass present closed older (first_asking pass tale) → FreshEnds tells clock says far counts net scene pass old present closed first handed slices
-      fresh_ends ends = record { trace = ends.trace; fresh = fresh_later older ends.trace ends.from fresh; rounds = told_rounds (AreRead net) ends.trace ends.from ends.rounds; ended = ends.ended }
+      fresh_ends ends = record { trace = ends.trace; fresh = fresh_later older ends.trace ends.from (inr (ends.from.lost_is ∙ none_lost)) fresh; rounds = told_rounds (AreRead net) ends.trace ends.from ends.rounds; ended = ends.ended }
 
       pub fresh_stops : (before now : NetFault → ℕ) (stop : Stop) → RunStops tells clock says far counts net scene pass present closed before now older (first_asking pass tale) stop
           → FreshStops tells clock says far counts net scene pass old present closed before now first handed slices stop
       fresh_stops before now stop stopped =
-          record { trace = stopped.trace; fresh = fresh_later older stopped.trace stopped.from fresh; rounds = told_rounds (AreCut net) stopped.trace stopped.from stopped.rounds; stopped = stopped.stopped }
+          record { trace = stopped.trace; fresh = fresh_later older stopped.trace stopped.from (inr (stopped.from.lost_is ∙ none_lost)) fresh; rounds = told_rounds (AreCut net) stopped.trace stopped.from stopped.rounds; stopped = stopped.stopped }
 
     -- ---- no content was reached
     front_sent : (Cuts : Cause → Type 0) (request sent : List ℕ) (cause : Cause) → SentUntil Cuts request sent cause → IsFrontSent request sent
@@ -148,7 +150,7 @@ module _ {D O : Type 0} (tells : Type 0) (clock : D → Clock) (says : O → Say
         shown_since own =
             let same : NoneFell before before = λ kind. omega arith in
             let still : NoneFell now now = λ kind. omega arith in
-            asking_shown Whole pass first before before now now same still start after cause (net_apart cause own) stopped (untold [] since 0) (λ c last.
+            asking_shown Whole pass first before before now now same still start after cause (net_apart cause own) stopped (untold [] since 0) (λ c for. inl refl) (λ c last.
             let is : since ≡ stopped.led ++ c ∷ [] = since_is (stopped.led ++ c ∷ []) (last ∙ append_assoc start stopped.led (c ∷ [])) in
             subst (λ (l : List Closed). Contains l c) (sym is) (contains_here stopped.led [] c)) (λ c last whole. since_is (stopped.led ++ c ∷ []) (last ∙ append_assoc start stopped.led (c ∷ [])))
 
@@ -168,7 +170,7 @@ module _ {D O : Type 0} (tells : Type 0) (clock : D → Clock) (says : O → Say
           → FreshStops tells clock says far counts net scene pass old desk after before now first handed slices stop
       none_reached desk stop live still own counted stopped = record {
         trace = untold [] since 0;
-        fresh = record { led = λ n. by_stop (IsLedAndLost pass first since) led_since stop (stopped n); wished = tt; told = tt };
+        fresh = record { led = λ n. by_stop (IsLedAndLost pass first since) led_since stop (stopped n); alone = inl refl; wished = tt; told = tt };
         rounds = refl;
         stopped = record {
           closed_is = λ n. by_stop (after ≡ start ++ since) all_since stop (stopped n) ∙ ap (λ (l : List Closed). l ++ since) (still n);
@@ -190,13 +192,14 @@ module _ {D O : Type 0} (tells : Type 0) (clock : D → Clock) (says : O → Say
       wished_by told is = record { head = reply.head; address = reply.address; is = is.wish_is }
 
       before_fresh : (lost : List Closed) → IsLeft lost → (trace : Trace) → IsBefore led lost count handed reply.head reply.address reply.key trace → Fresh trace
-      before_fresh lost left trace (inl is) = subst Fresh (sym is) (record { led = led_and lost left; wished = tt; told = tt })
-      before_fresh lost left trace (inr by) = subst Fresh (sym by.2) (record { led = led_and lost left; wished = wished_by by.0 by.1; told = tt })
+      before_fresh lost left trace (inl is) = subst Fresh (sym is) (record { led = led_and lost left; alone = inl refl; wished = tt; told = tt })
+      before_fresh lost left trace (inr by) = subst Fresh (sym by.2) (record { led = led_and lost left; alone = inl refl; wished = wished_by by.0 by.1; told = tt })
 
       pub told_fresh : (lost : List Closed) → IsLeft lost → (told : Tells) (name : List ℕ) → IsToldOf handed reply.head reply.address reply.key told → WithNames tells clock old (λ taken. IsFirstFree told.wish taken name) → count ≡ count_by slices reply.head.strong reply.head.total reply.head.ranges
           → Fresh (told_with led lost count told.wish (tale_of reply.address told name))
       told_fresh lost left told name is named count_is = record {
         led = led_and lost left;
+        alone = inl refl;
         wished = wished_by told is;
         told = record {
           head = reply.head;
@@ -206,6 +209,7 @@ module _ {D O : Type 0} (tells : Type 0) (clock : D → Clock) (says : O → Say
           named = named;
           key_is = is.key_is ∙ has.replied.key_is;
           total_is = is.total_is;
+          small = subst (λ (t : Option ℕ). IfSome t (λ n. n ≤ 2 ^ 40)) (sym is.total_is) has.replied.plain.limit.total;
           modified_is = is.modified_is;
           count_is = count_is;
           reads = has.reads;

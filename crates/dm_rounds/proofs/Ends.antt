@@ -84,7 +84,7 @@ module _ {W : Type 0} (net tells : Type 0) (by : net → tells) (made_for : W �
   unfolding carried_of
   carried_each [] left for = tt
   carried_each (lane ∷ lanes) left for =
-      (record { share = left.0.share; share_is = left.0.share_is; asked = record { wanted_is = for.0.asked.wanted_is; first_is = for.0.asked.first_is; purpose_is = λ n. for.0.asked.purpose_is (by n); sent_is = λ n. for.0.asked.sent_is (by n) }; brought = λ n. left.0.brought (by n) }, carried_each lanes left.1 for.1)
+      (record { share = left.0.share; share_is = left.0.share_is; part_is = left.0.part_is; asked = record { wanted_is = for.0.asked.wanted_is; first_is = for.0.asked.first_is; purpose_is = λ n. for.0.asked.purpose_is (by n); sent_is = λ n. for.0.asked.sent_is (by n) }; brought = λ n. left.0.brought (by n) }, carried_each lanes left.1 for.1)
 
   pub cut_round : (start now after : List Closed) (lanes : List (Lane W)) → AllByRecursion (IsLeft tells told shares) lanes → (net → Closes made_for told now after lanes)
       → InRound net tells made_for told asking start now shares lanes → IsCutRound net asking start after shares
@@ -98,7 +98,7 @@ module _ {W : Type 0} (net tells : Type 0) (by : net → tells) (made_for : W �
             ∙ ap (λ (l : List Closed). start ++ l) (sym (map-append connection round.wires (map carried_of lanes)));
         once = λ n short. omega (arith, round.once n short, total_append (is_of n) round.wires (map carried_of lanes), counts n lanes);
         each = append_each (IsCarried net asking shares) round.wires (map carried_of lanes)
-            (weaker_each (IsRead net asking shares) (IsCarried net asking shares) (λ c is. record { share = is.share; share_is = is.share_is; asked = is.asked; brought = is.brought }) round.wires round.each)
+            (weaker_each (IsRead net asking shares) (IsCarried net asking shares) (λ c is. record { share = is.share; share_is = is.share_is; part_is = is.part_is; asked = is.asked; brought = is.brought }) round.wires round.each)
             (carried_each lanes left round.asks);
       }
 

@@ -23,7 +23,7 @@ use Rattle.dm_store.specs.declared.pass.Pass.{Pass}
 use Rattle.dm_attempt.specs.Ends.{empty_share}
 use Rattle.dm_attempt.specs.Shares.{Share}
 use Rattle.dm_attempt.specs.Trace.{Trace, connections_of}
-use Rattle.dm_rounds.specs.Trail.{NetShowsIt}
+use Rattle.dm_rounds.specs.Trail.{IsAskedIn, NetShowsIt}
 use Rattle.dm_rounds.proofs.Causes.{rose_longer}
 
 -- of a part of which nothing was landed there are no bytes
@@ -55,6 +55,7 @@ shows_longer a b c d trace cause earlier later (inr (inl head)) = inr (inl (reco
   connection = head.connection;
   among = head.among;
   wanted = head.wanted;
+  asked = head.asked;
   followed = head.followed;
   last = head.last;
   sent = sent_longer a b c d (request_of head.connection.purpose.address (ask_of head.wanted)) head.connection.sent cause earlier later head.sent;
@@ -68,9 +69,9 @@ contains_here xs ys c = Contains-append_right xs (c ∷ ys) c (0, omega arith, r
 module _ (wanted : Wanted) (pass : Pass) (first : Address) (a since until d : NetFault → ℕ) (earlier : NoneFell a since) (later : NoneFell until d) (start between : List Closed) (cause : Cause) (other : cause ≢ causes.Memory)
     (stopped : IsStopped wanted (purpose_of pass.id pass.attempt) first since until start between cause) where
   -- the connection that was made last is one of the attempt's, if any was
-  pub asking_shown : (trace : Trace) → ((c : Closed) → between ≡ (start ++ stopped.led) ++ c ∷ [] → Contains (connections_of trace) c)
+  pub asking_shown : (trace : Trace) → ((c : Closed) → c.purpose ≡ purpose_of pass.id pass.attempt stopped.at → (wanted ≡ Whole) ⊎ IsAskedIn trace.rounds c.purpose wanted) → ((c : Closed) → between ≡ (start ++ stopped.led) ++ c ∷ [] → Contains (connections_of trace) c)
       → ((c : Closed) → between ≡ (start ++ stopped.led) ++ c ∷ [] → wanted ≡ Whole → trace.led ++ trace.lost ≡ stopped.led ++ c ∷ []) → NetShowsIt a d trace cause
-  asking_shown trace among whole = elim stopped.ended [
+  asking_shown trace asked among whole = elim stopped.ended [
     | inl un ↦ by_cut un.1
     | inr off ↦ by_off off
   ]
@@ -92,6 +93,7 @@ module _ (wanted : Wanted) (pass : Pass) (first : Address) (a since until d : Ne
             connection = off.connection;
             among = among off.connection off.last;
             wanted = wanted;
+            asked = asked off.connection off.purpose_is;
             followed = length stopped.led;
             last = λ w. (stopped.led, whole off.connection off.last w, refl);
             sent = subst (λ (to : Address). SentUntil (CutsNet a d) (request_of to (ask_of wanted)) off.connection.sent cause) (sym here)

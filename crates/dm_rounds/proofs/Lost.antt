@@ -118,6 +118,7 @@ module _ (asking : Asking) (source : Source) (pass : Pass) (shares : List Share)
         | inr off ↦ lost_one off.connection (off.last ∙ ap (λ (l : List Closed). l ++ off.connection ∷ []) base) (record {
           share = empty_share (part_of slice);
           share_is = ap (λ (n : ℕ). slice_get shares n) is.number_is ∙ is.empty;
+          part_is = refl;
           wanted_is = inr (is.asks.own, record { of = source; source_is = is.asks.source_is; asked_is = refl });
           first_is = refl;
           purpose_is = off.purpose_is ∙ ap (purpose_of pass.id pass.attempt) at ∙ sym is.asks.purpose_is;
@@ -138,6 +139,7 @@ pub tried_of : (net : Type 0) (t : net) (asking : Asking) (shares : List Share) 
 tried_of net t asking shares c is = record {
   share = is.share;
   share_is = is.share_is;
+  part_is = is.part_is;
   wanted_is = is.asked.wanted_is;
   first_is = is.asked.first_is;
   purpose_is = is.asked.purpose_is t;

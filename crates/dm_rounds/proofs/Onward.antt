@@ -10,6 +10,8 @@ use Rattle.dm_policy.specs.declared.cause.Cause.{Cause}
 use Rattle.dm_policy.specs.declared.cause.Cause.TheVariants as causes
 use Rattle.dm_edge.specs.declared.fault.NetFault.{NetFault}
 use Rattle.dm_edge.specs.Wire.{Purpose, Told, Closed}
+use Rattle.dm_ask.specs.Following.{IsStopped}
+use Rattle.dm_ask.specs.Redirects.{Led, purpose_of}
 use Rattle.dm_kept.specs.Files.{Says}
 use Rattle.dm_store.specs.declared.pass.Pass.{Pass}
 use Rattle.dm_store.specs.View.{View}
@@ -32,6 +34,7 @@ use Rattle.dm_rounds.specs.Reading.{IsKeyed, IsReading, closed_before}
 use Rattle.dm_rounds.specs.Rounding.{LostOpens, NoneOpens, RoundOpens, next_shares}
 use Rattle.dm_rounds.specs.Running.{IsRunning, later_asking}
 use Rattle.dm_rounds.specs.Trail.{AreRead, AreUsedUp, GoesFrom, IsShown, RunEnds, RunLeaves, RunStops, WasCut, asking_behind}
+use Rattle.dm_rounds.proofs.Asks.{none_led}
 use Rattle.dm_rounds.proofs.Causes.{counts_longer, net_apart}
 use Rattle.dm_rounds.proofs.Losing.{asking_shown, contains_here, empty_at, same_behind, shows_longer}
 use Rattle.dm_rounds.proofs.Trails.{closed_more, from_one, from_then, read_cut}
@@ -109,6 +112,11 @@ module _ {D O : Type 0} (tells : Type 0) (clock : D → Clock) (says : O → Say
           (lost_among (closed_before scene trace) led lost.round.between closed lost.round.rest (map (λ (w : Carried). w.connection) lost_wires) (trace.led ++ wires_of trace.rounds) trace.lost c last
           (lost.round.behind n) (lost.round.round.closed n))
 
+      -- a range is asked for at its own address
+      own_address : (cause : Cause) (stopped : IsStopped (range_of source (part_of lost.round.slice)) (purpose_of going.pass.id going.pass.attempt) source.address lost.round.since lost.round.until (closed_before scene trace) lost.round.between cause) → stopped.at ≡ source.address
+      own_address cause stopped =
+          subst (λ (led : List Closed). Led (purpose_of going.pass.id going.pass.attempt) source.address led stopped.at) (none_led (range_of source (part_of lost.round.slice)) source (part_of lost.round.slice) stopped.led stopped.direct) stopped.leads
+
       lost_shown : (s : Stop) → s ≡ stop → IfBroke s (IsShown net before now scene lost_trace)
       lost_shown (stops.Broke cause) is =
           let counted = subst (λ (x : Stop). NetCounts before now x) (sym is) (counts_longer before lost.round.since lost.round.until now stop since lost.round.later lost.round.counted) in
@@ -118,7 +126,7 @@ module _ {D O : Type 0} (tells : Type 0) (clock : D → Clock) (says : O → Say
             λ n.
                 let stopped = subst (λ (x : Stop). StopsAsking source going.pass (part_of lost.round.slice) lost.round.since lost.round.until (closed_before scene trace) lost.round.between x) (sym is) (lost.round.lost n) in
                 asking_shown (range_of source (part_of lost.round.slice)) going.pass source.address before lost.round.since lost.round.until now since lost.round.later (closed_before scene trace) lost.round.between cause (net_apart cause counted.0) stopped lost_trace
-                (λ c last. connection_among n stopped.led c last) (λ c last whole. absurd (let e = whole in cc)),
+                (λ c for. inr (for ∙ ap (purpose_of going.pass.id going.pass.attempt) (own_address cause stopped) ∙ sym lost.round.is.asks.purpose_is, part_of lost.round.slice, record { of = source; source_is = lost.round.is.asks.source_is; asked_is = refl })) (λ c last. connection_among n stopped.led c last) (λ c last whole. absurd (let e = whole in cc)),
           )
       lost_shown stops.NoMemory is = tt
       lost_shown (stops.Fault fault) is = tt

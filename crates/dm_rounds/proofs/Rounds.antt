@@ -49,6 +49,7 @@ pub read_other : (net : Type 0) (asking : Asking) (k : ℕ) (old new : List Shar
 read_other net asking k old new grows c none is = record {
   share = is.share;
   share_is = grows.others c.part.index (none_at c.part.index k none) ∙ is.share_is;
+  part_is = is.part_is;
   asked = is.asked;
   brought = is.brought;
   whole = is.whole;
@@ -176,6 +177,7 @@ round_close {W} net tells by made_for told asking start now after shares lanes k
       each = push_each (IsRead net asking shares) round.wires own round.each (record {
         share = full.left.share;
         share_is = full.left.share_is;
+        part_is = full.left.part_is;
         asked = let a = (subst Asks (sym at) (at_each Asks lanes k lane within round.asks)).asked in record { wanted_is = a.wanted_is; first_is = a.first_is; purpose_is = λ n. a.purpose_is (by n); sent_is = λ n. a.sent_is (by n) };
         brought = λ n. full.left.brought (by n);
         whole = whole_by net tells by made_for told asking.key shares lane full;

@@ -116,8 +116,8 @@ module _ {D O W : Type 0} (tells : Type 0) (clock : D → Clock) (says : O → S
     -- what the rounds leave is what the attempt leaves
     pub run_leaves : (present : View D O) (after : List Closed) (before now : NetFault → ℕ) (result : Result (Unit {0}) Stop) → RunLeaves tells clock says far counts net scene pass present after before now (trace []) (first_asking pass (tale [])) result
         → FreshLeaves tells clock says far counts net scene pass old present after before now first handed slices result
-    run_leaves present after before now (Ok done) leaves = fresh_ends tells clock says far counts scene pass net old first handed slices present after (trace []) (tale []) refl (trace_fresh [] (λ n. tt)) leaves
-    run_leaves present after before now (Err stop) leaves = fresh_stops tells clock says far counts scene pass net old first handed slices present after (trace []) (tale []) refl (trace_fresh [] (λ n. tt)) before now stop leaves
+    run_leaves present after before now (Ok done) leaves = fresh_ends tells clock says far counts scene pass net old first handed slices present after (trace []) (tale []) refl refl (trace_fresh [] (λ n. tt)) leaves
+    run_leaves present after before now (Err stop) leaves = fresh_stops tells clock says far counts scene pass net old first handed slices present after (trace []) (tale []) refl refl (trace_fresh [] (λ n. tt)) before now stop leaves
 
     pub source_same : source_by (tale []).address (tale []).key (tale []).total ≡ source_by reply.address reply.key reply.head.total
     source_same = ap (λ (k : Key). source_by reply.address k (plan []).told.total) (plan []).is.key_is ∙ ap (source_by reply.address reply.key) (plan []).is.total_is
@@ -142,7 +142,7 @@ module _ {D O W : Type 0} (tells : Type 0) (clock : D → Clock) (says : O → S
 
     bare_fresh : IsFreshTrace tells clock net old pass first handed slices bare_trace
     bare_fresh = fresh_later tells clock says far counts scene pass net old first handed slices (trace (c ∷ [])) bare_trace
-        (record { led_is = refl; lost_is = refl; wish_is = refl; told_is = refl; count_is = refl; newer = next_round scene (trace (c ∷ [])) (first_asking pass (tale (c ∷ []))) ∷ []; rounds_are = refl }) (trace_fresh (c ∷ []) left)
+        (record { led_is = refl; lost_is = refl; wish_is = refl; told_is = refl; count_is = refl; newer = next_round scene (trace (c ∷ [])) (first_asking pass (tale (c ∷ []))) ∷ []; rounds_are = refl }) (inl refl) (trace_fresh (c ∷ []) left)
 
     bare_closed : net → after ≡ closed_before scene bare_trace
     bare_closed n = closes n ∙ ap (λ (l : List Closed). l ++ c ∷ []) (is.has.closed_is n) ∙ append_assoc scene.closed led (c ∷ [])

@@ -41,7 +41,7 @@ closed_more a b c w lost none =
     subst (λ (l : List Closed). (a ++ (b ++ (c ++ l))) ++ w ≡ a ++ (b ++ ((c ++ w) ++ l))) (sym none) (simp (append-nil, append_assoc))
 
 carried_read : (net : Type 0) (asking : Asking) (shares : List Share) (c : Carried) → IsRead net asking shares c → IsCarried net asking shares c
-carried_read net asking shares c is = record { share = is.share; share_is = is.share_is; asked = is.asked; brought = is.brought }
+carried_read net asking shares c is = record { share = is.share; share_is = is.share_is; part_is = is.part_is; asked = is.asked; brought = is.brought }
 
 -- a round whose parts all have one connection
 cut_of : (net : Type 0) (round : Round) → ((n : ℕ) → n < length round.shares → total (is_of n) round.wires ≡ 1) → AllByRecursion (IsCarried net round.asking round.shares) round.wires → WasCut net round

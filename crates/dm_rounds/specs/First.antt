@@ -1,5 +1,5 @@
 -- An attempt that brings its content anew: its first reply, which serves the first part.
-use Rattle.std.specs.Prelude.{◌≡◌, ℕ, ◌≤◌, List, [], ◌∷◌, ◌++◌, length, true, Option, Some, None, is_some, Result, Ok, Err, IfSome}
+use Rattle.std.specs.Prelude.{◌≡◌, ◌⊎◌, ℕ, ◌≤◌, ◌^◌, List, [], ◌∷◌, ◌++◌, length, true, Option, Some, None, is_some, Result, Ok, Err, IfSome}
 use Rattle.dm_types.specs.declared.address.Address.{Address}
 use Rattle.dm_types.specs.declared.kinds.DiskKind.{DiskKind}
 use Rattle.dm_disk_model.specs.Disk.{History as Clock}
@@ -24,7 +24,7 @@ use Rattle.dm_attempt.specs.declared.stop.Stop.TheVariants as stops
 use Rattle.dm_attempt.specs.Asking.{Asking, count_by, source_by}
 use Rattle.dm_attempt.specs.Live.{LiveDesk}
 use Rattle.dm_attempt.specs.Scene.{Scene, begun_by}
-use Rattle.dm_attempt.specs.Trace.{Round, Tale, Trace, untold}
+use Rattle.dm_attempt.specs.Trace.{Round, Tale, Trace, untold, wires_of}
 use Rattle.dm_rounds.specs.declared.first.Reply.{Reply}
 use Rattle.dm_rounds.specs.Opened.{IsFrontSent}
 use Rattle.dm_rounds.specs.Telling.{IsWishOf}
@@ -84,14 +84,17 @@ pub record IsTold {D O : Type 0} (tells : Type 0) (clock : D → Clock) (net : T
   pub named : WithNames tells clock old (λ taken. IsFirstFree wish taken tale.name)
   pub key_is : tale.key ≡ key_of (purpose_of pass.id pass.attempt tale.address) head.strong
   pub total_is : tale.total ≡ head.total
+  pub small : IfSome tale.total (λ bytes. bytes ≤ 2 ^ 40)
   pub modified_is : tale.modified ≡ head.modified
   pub count_is : trace.count ≡ count_by slices head.strong head.total head.ranges
   pub reads : IsRead tale.address.text tale.address
   pub leads : net → Led (purpose_of pass.id pass.attempt) first trace.led tale.address
 
--- Where the net tells, the connections that belong to no round led on, but for one at most. What was told is what a head tells.
+-- Where the net tells, the connections that belong to no round led on, but for one at most, and for none where a round has a connection. What was told is what a
+-- head tells.
 pub record IsFreshTrace {D O : Type 0} (tells : Type 0) (clock : D → Clock) (net : Type 0) (old : View D O) (pass : Pass) (first : Address) (handed : List ℕ) (slices : ℕ) (trace : Trace) : Type 0 where
   pub led : net → IsLedAndLost pass first (trace.led ++ trace.lost)
+  pub alone : (wires_of trace.rounds ≡ []) ⊎ (trace.lost ≡ [])
   pub wished : IfSome trace.wish (IsWished handed)
   pub told : IfSome trace.told (IsTold tells clock net old pass first handed slices trace)
 

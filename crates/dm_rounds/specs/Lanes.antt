@@ -1,5 +1,5 @@
 -- A lane, and a round of lanes.
-use Rattle.std.specs.Prelude.{◌≡◌, ◌≢◌, ◌⊎◌, ◌<◌, ◌≤◌, ◌==◌, ℕ, ◌+◌, ◌-◌, Bool, true, false, cond, List, ◌++◌, length, map, take, slice_get, Option, Some, None, Result, Ok, Err, IfSome, IsTrue}
+use Rattle.std.specs.Prelude.{◌≡◌, ◌⊎◌, ◌<◌, ◌≤◌, ◌==◌, ℕ, ◌+◌, ◌-◌, Bool, true, false, cond, List, ◌++◌, length, map, take, slice_get, Option, Some, None, Result, Ok, Err, IfSome, IsTrue}
 use Rattle.std.specs.List.{AllByRecursion, Contains}
 use Rattle.httparse.specs.Grammar.{ResponseHead}
 use Rattle.dm_types.specs.Faults.{Rose}
@@ -177,6 +177,7 @@ WasAsked net asking c = IsAsked net asking c.part c.wanted c.connection.purpose 
 pub record IsRead (net : Type 0) (asking : Asking) (shares : List Share) (c : Carried) : Type 0 where
   pub share : Share
   pub share_is : slice_get shares c.part.index ≡ Some share
+  pub part_is : share.part ≡ c.part
   pub asked : WasAsked net asking c
   pub brought : net → Brought c.wanted c.connection.stream share.bytes
   pub whole : (share.part.first + length share.bytes ≡ share.part.end) ⊎ (net → IsWhole c.wanted c.connection.stream share.bytes)
@@ -230,6 +231,7 @@ pub record IsWholeRound (net : Type 0) (asking : Asking) (start now : List Close
 pub record IsCarried (net : Type 0) (asking : Asking) (shares : List Share) (c : Carried) : Type 0 where
   pub share : Share
   pub share_is : slice_get shares c.part.index ≡ Some share
+  pub part_is : share.part ≡ c.part
   pub asked : WasAsked net asking c
   pub brought : net → Brought c.wanted c.connection.stream share.bytes
 

@@ -34,6 +34,7 @@ IsFrontSent request sent = (sent ≡ request) ⊎ ((n : ℕ) × (sent ≡ take n
 pub record WasTried (asking : Asking) (shares : List Share) (c : Carried) : Type 0 where
   pub share : Share
   pub share_is : slice_get shares c.part.index ≡ Some share
+  pub part_is : share.part ≡ c.part
   pub wanted_is : WantedBy asking c.part c.wanted
   pub first_is : first_of c.wanted ≡ c.part.first
   pub purpose_is : c.connection.purpose ≡ asking.purpose

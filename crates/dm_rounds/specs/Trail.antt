@@ -13,19 +13,20 @@ use Rattle.dm_edge.specs.declared.wanted.Wanted.{Wanted}
 use Rattle.dm_edge.specs.declared.wanted.Wanted.TheVariants.{Whole}
 use Rattle.dm_edge.specs.Causes.{CutsNet, IsNetFault}
 use Rattle.dm_edge.specs.Fair.{ask_of}
-use Rattle.dm_edge.specs.Wire.{Closed}
+use Rattle.dm_edge.specs.Wire.{Closed, Purpose}
 use Rattle.dm_request.specs.Request.{request_of}
 use Rattle.dm_ask.specs.Causes.{MeetsHead, net_kind_of}
 use Rattle.dm_ask.specs.Following.{SentUntil}
 use Rattle.dm_ask.specs.Redirects.{purpose_of}
 use Rattle.dm_slice.specs.Words.{IsFirstMissing}
+use Rattle.dm_slice.specs.declared.plan.Part.{Part}
 use Rattle.dm_kept.specs.Files.{Says}
 use Rattle.dm_store.specs.declared.pass.Pass.{Pass}
 use Rattle.dm_store.specs.View.{View}
 use Rattle.dm_answers.specs.Plan.{last_round}
 use Rattle.dm_attempt.specs.declared.source.Source.{Source}
 use Rattle.dm_attempt.specs.declared.stop.Stop.{Stop}
-use Rattle.dm_attempt.specs.Asking.{Asking}
+use Rattle.dm_attempt.specs.Asking.{Asking, IsRangeOf}
 use Rattle.dm_attempt.specs.Ending.{IfBroke, StopHolds}
 use Rattle.dm_attempt.specs.Live.{DeskOver, LiveDesk}
 use Rattle.dm_attempt.specs.Scene.{Scene, begun_by, cover_by}
@@ -72,12 +73,19 @@ pub record GoesFrom (older later : Trace) : Type 0 where
   pub newer : List Round
   pub rounds_are : later.rounds ≡ newer ++ older.rounds
 
+-- the newest round makes connections for this, and asks on them for what is wanted, as the range of a part of its source
+abbrev pub IsAskedIn : List Round → Purpose → Wanted → Type 0
+IsAskedIn [] purpose wanted = ⊥
+IsAskedIn (round ∷ older) purpose wanted = (purpose ≡ round.asking.purpose) × (part : Part) × IsRangeOf round.asking.source part wanted
+
 -- The head on one of the attempt's connections shows the cause, where so many connections had led on: of a whole content just those before it, of all that belong to
--- no round. It was sent the whole request for what was wanted, or the cause cut it off.
+-- no round. It was sent the whole request for what was wanted, or the cause cut it off. A range that was wanted is one of the newest round's source, of the total that
+-- is known of it.
 pub record HeadShows (before after : NetFault → ℕ) (trace : Trace) (cause : Cause) : Type 0 where
   pub connection : Closed
   pub among : Contains (connections_of trace) connection
   pub wanted : Wanted
+  pub asked : (wanted ≡ Whole) ⊎ IsAskedIn trace.rounds connection.purpose wanted
   pub followed : ℕ
   pub last : wanted ≡ Whole → (led : List Closed) × (trace.led ++ trace.lost ≡ led ++ connection ∷ []) × (followed ≡ length led)
   pub sent : SentUntil (CutsNet before after) (request_of connection.purpose.address (ask_of wanted)) connection.sent cause

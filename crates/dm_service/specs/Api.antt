@@ -1,31 +1,75 @@
--- What a request does to the list, and what is replied: a function of the call, the list and the moment.
-use Rattle.std.specs.Prelude.{ℕ, List, [], Option, Some, None}
+-- What a request does to the list, and what is replied: a function of the request, of the list with the attempts that run, and of the moment.
+use Rattle.std.specs.Prelude.{ℕ, Bool, true, false, if◌then◌else◌, List, [], Option, Some, None, Result, Ok, Err}
+use Rattle.dm_types.specs.declared.entry.Entry.TheVariants as entries
 use Rattle.dm_types.specs.declared.item.Item.{Item}
 use Rattle.dm_types.specs.declared.item.ItemId.{ItemId}
 use Rattle.dm_item.specs.Lawful.{History}
-use Rattle.dm_item.specs.Listing.{item_in}
+use Rattle.dm_item.specs.Listing.{Listing, item_in}
+use Rattle.dm_item.specs.Row.{allows, is_paused}
+use Rattle.dm_report.specs.declared.verdict.Verdict.TheVariants as verdicts
 use Rattle.dm_store.specs.Becomes.{run_of}
+use Rattle.dm_store.specs.Lives.{life_in}
+use Rattle.dm_store.specs.declared.life.Life.{Life}
+use Rattle.dm_answers.specs.Pause.{pausing}
+use Rattle.dm_call.specs.Asked.{asked}
+use Rattle.dm_call.specs.declared.call.Call.{Call}
+use Rattle.dm_call.specs.declared.call.Refusal.{Refusal}
+use Rattle.dm_call.specs.declared.call.Refusal.TheVariants as refusals
+use Rattle.dm_call.specs.declared.request.ApiRequest.{ApiRequest}
 use Rattle.dm_does.specs.declared.course.Course.{Course}
 use Rattle.dm_does.specs.declared.course.Course.TheVariants.{Brings, Ends}
 use Rattle.dm_does.specs.declared.course.Show.{Show}
 use Rattle.dm_does.specs.declared.course.Show.TheVariants as shows
 use Rattle.dm_does.specs.declared.job.Job.{Job}
 use Rattle.dm_does.specs.declared.job.Job.TheVariants as jobs
-use Rattle.dm_does.specs.Doing.{Doing, Given, does}
+use Rattle.dm_does.specs.Doing.{Doing, Given, does, on_item, refuses}
+use Rattle.dm_response.specs.Reply.{trouble_of}
 use Rattle.dm_response.specs.declared.reply.ApiReply.{ApiReply}
-use Rattle.dm_service.specs.Replies.{reply_by}
+use Rattle.dm_response.specs.declared.trouble.Trouble.TheVariants as troubles
+use Rattle.dm_service.specs.Replies.{page_by, reply_by, stop_by}
+use Rattle.dm_service.specs.Tasks.{task_by}
+use Rattle.dm_service.specs.declared.task.Task.{Task}
+use Rattle.dm_service.specs.declared.task.Task.TheVariants as tasks
+
+-- what a request looks at: the list, the attempts that run, and the moment, in milliseconds since 1970
+pub record Seen : Type 0 where
+  pub list : Listing
+  pub lives : List Life
+  pub at : ℕ
+
+abbrev pub given_by : Seen → Given
+given_by seen = record { list = seen.list; at = seen.at }
 
 -- the entries that are recorded, and the reply
 pub record Api : Type 0 where
   pub entries : History
   pub reply : ApiReply
+  -- the list is to be changed, which it isn't where it is broken
+  pub changes : Bool
+
+-- an item is paused; what was landed of its attempt, where one runs, is saved first
+abbrev pub pauses_with : List Life → Item → Doing
+pauses_with lives item =
+    if is_paused item.phase
+    then record { entries = []; course = Ends verdicts.Done (shows.Line item.id) }
+    else (if allows (entries.Paused item.id) item.phase then record { entries = pausing item (life_in item.id.0 lives); course = Ends verdicts.Done (shows.Line item.id) } else refuses (verdicts.WrongState item.phase))
+
+-- what a job does to a list of which attempts may run
+abbrev pub does_now : Job → Seen → Doing
+does_now (jobs.Pause id) seen = on_item (given_by seen) id (pauses_with seen.lives)
+does_now job seen = does job (given_by seen)
+
+-- the job is no look alone
+abbrev pub is_change : Job → Bool
+is_change jobs.List = false
+is_change (jobs.Show id) = false
+is_change _ = true
 
 -- the item that a course shows, of these
 abbrev pub item_shown : List Item → Show → Option Item
-item_shown items shows.Nothing = None
 item_shown items (shows.Line id) = item_in id.0 items
-item_shown items shows.Lines = None
 item_shown items (shows.Whole id) = item_in id.0 items
+item_shown items _ = None
 
 abbrev pub item_by : List Item → Course → Option Item
 item_by items (Ends verdict show) = item_shown items show
@@ -36,10 +80,27 @@ abbrev pub removed_by : Job → ItemId
 removed_by (jobs.Remove id) = id
 removed_by _ = record { 0 = 0 }
 
-abbrev pub api_of : Given → Job → Doing → Api
-api_of given job doing =
-    record { entries = doing.entries; reply = reply_by (removed_by job) (item_by (run_of doing.entries given.list).items doing.course) doing.course }
-
 -- A job at the list. Items in the reply are shown as they stand behind its entries.
-abbrev pub api : Given → Job → Api
-api given job = api_of given job (does job given)
+abbrev pub api_of : Seen → Job → Doing → Api
+api_of seen job doing =
+    record { entries = doing.entries; reply = reply_by (removed_by job) (item_by (run_of doing.entries seen.list).items doing.course) doing.course; changes = is_change job }
+
+-- the list stays, and this is replied
+abbrev pub tells : ApiReply → Api
+tells reply = record { entries = []; reply = reply; changes = false }
+
+-- the history has no routes yet
+abbrev pub api_task : Seen → Task → Api
+api_task seen (tasks.Job job) = api_of seen job (does_now job seen)
+api_task seen (tasks.Page window) = tells (page_by seen.list.items window)
+api_task seen tasks.Archive = tells (trouble_of (troubles.Refused refusals.Path))
+api_task seen (tasks.History window) = tells (trouble_of (troubles.Refused refusals.Path))
+api_task seen tasks.Stop = tells stop_by
+
+abbrev pub api_asked : Seen → Result Call Refusal → Api
+api_asked seen (Ok call) = api_task seen (task_by call)
+api_asked seen (Err refusal) = tells (trouble_of (troubles.Refused refusal))
+
+-- what a request does
+abbrev pub api : Seen → ApiRequest → Api
+api seen request = api_asked seen (asked request)

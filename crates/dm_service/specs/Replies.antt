@@ -61,9 +61,7 @@ trouble_by _ = Some troubles.Memory
 -- what a job that is done shows: an item, or that it is removed
 abbrev pub done_by : ItemId → Option Item → Show → ApiReply
 done_by id item shows.Nothing = told (removed_data id) false
-done_by id item (shows.Line shown_id) = shown item
-done_by id item shows.Lines = shown item
-done_by id item (shows.Whole shown_id) = shown item
+done_by id item _ = shown item
 
 abbrev pub ended_by : ItemId → Option Item → Show → Option Trouble → ApiReply
 ended_by id item show None = done_by id item show

@@ -1,12 +1,10 @@
 //! What a request to the service does to the list of items, and what is replied.
 #![tactic(auto)]
 
-mod answering;
-mod past;
 mod reply;
+mod shown;
 mod task;
 
-pub use answering::answer;
-pub use past::{Past, Works};
 pub use reply::{page_reply, reply_to, stop_reply};
+pub use shown::{item_of, removed_id};
 pub use task::{Task, task_of};

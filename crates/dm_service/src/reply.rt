@@ -41,7 +41,7 @@ fn done(alloc: Global, id: ItemId, item: Option<&Item>, show: Show) -> Result<Ap
 {
     match show {
         Show::Nothing => removed(alloc, id),
-        Show::Line(_) | Show::Lines | Show::Whole(_) => shown(alloc, item),
+        _ => shown(alloc, item),
     }
 }
 

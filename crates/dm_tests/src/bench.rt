@@ -36,6 +36,35 @@ impl Outside {
     };
 }
 
+/// A run, and what it comes to.
+#[derive(Clone, Copy)]
+pub struct Row {
+    pub words: &'static [&'static [u8]],
+    /// What the connections say, one after the other.
+    pub streams: &'static [&'static [u8]],
+    pub outside: Outside,
+    /// How the requests end, in order.
+    pub sent: &'static [&'static [u8]],
+    pub status: u8,
+    pub out: &'static [u8],
+    pub errs: &'static [u8],
+    /// Files that then stand, and what they hold.
+    pub files: &'static [(&'static [u8], &'static [u8])],
+}
+
+impl Row {
+    pub const NOTHING: Row = Row {
+        words: &[],
+        streams: &[],
+        outside: Outside::SOUND,
+        sent: &[],
+        status: 0,
+        out: b"",
+        errs: b"",
+        files: &[],
+    };
+}
+
 /// How a run ended.
 #[derive(Drop)]
 pub struct Outcome {
@@ -125,16 +154,21 @@ fn net(alloc: Global, streams: &[&[u8]], outside: Outside) -> Result<NetScript, 
     NetScript::new(wires, connect_fails(alloc, outside.connect)?)
 }
 
-/// A disk on which one call fails.
-pub fn disk(alloc: Global, failing: Option<u64>) -> Result<MemoryDisk, NoMemory> {
+/// An empty disk, of which one call fails so, and which stops after so many.
+pub fn disk_with(
+    alloc: Global,
+    failing: Option<(u64, DiskKind)>,
+    stop_after: Option<u64>,
+) -> Result<MemoryDisk, NoMemory> {
     let mut list = FailList::new(alloc);
-    if let Some(call) = failing {
-        list.push(FailingCall {
-            call,
-            kind: DiskKind::Failed,
-        })?;
+    if let Some((call, kind)) = failing {
+        list.push(FailingCall { call, kind })?;
     }
-    MemoryDisk::new(alloc, list, None)
+    MemoryDisk::new(alloc, list, stop_after)
+}
+
+pub fn disk(alloc: Global) -> Result<MemoryDisk, NoMemory> {
+    disk_with(alloc, None, None)
 }
 
 /// An output with room for 1000 bytes.
@@ -203,6 +237,51 @@ pub fn run(
     collect(alloc, ran, &net, &out, &errs)
 }
 
+pub fn is_printed(ran: &Outcome, status: u8, out: &[u8], errs: &[u8]) -> bool {
+    ran.status == status && ran.out.bytes() == out && ran.errs.bytes() == errs
+}
+
+/// Whether each request ends as it is to end.
+fn end_as(requests: &[Text], ends: &[&[u8]]) -> bool {
+    for (place, end) in ends.iter().enumerate() {
+        match requests.get(place) {
+            Some(sent) => {
+                if !sent.bytes().ends_with(end) {
+                    return false;
+                }
+            }
+            None => return false,
+        }
+    }
+    requests.len() == ends.len()
+}
+
+/// Whether it is as the row says: the status, both texts, how the requests ended, and the files.
+pub fn is_as(alloc: Global, ran: &mut Outcome, row: &Row) -> Result<bool, NoMemory> {
+    let is_told = is_printed(ran, row.status, row.out, row.errs);
+    let is_asked = end_as(&ran.requests, row.sent);
+    let is_held = hold(alloc, &mut ran.disk, row.files)?;
+    Ok(is_told && is_asked && is_held)
+}
+
+/// Runs rows one behind another: the first that comes to something else, and the disk.
+pub fn first_other(
+    alloc: Global,
+    disk: MemoryDisk,
+    rows: &[Row],
+) -> Result<(Option<usize>, MemoryDisk), NoMemory> {
+    let mut disk = disk;
+    let mut other = None;
+    for (place, row) in rows.iter().enumerate() {
+        let mut ran = run(alloc, row.words, row.streams, disk, row.outside)?;
+        if other.is_none() && !is_as(alloc, &mut ran, row)? {
+            other = Some(place);
+        }
+        disk = ran.disk;
+    }
+    Ok((other, disk))
+}
+
 fn place(alloc: Global, name: &[u8]) -> Result<Place, NoMemory> {
     Ok(Place {
         area: Area::Files,
@@ -250,6 +329,19 @@ pub fn holds(
         },
         Err(_) => Ok(false),
     }
+}
+
+/// Whether each of these files stands and holds just that.
+pub fn hold(
+    alloc: Global,
+    disk: &mut MemoryDisk,
+    files: &[(&[u8], &[u8])],
+) -> Result<bool, NoMemory> {
+    let mut all = true;
+    for (name, bytes) in files {
+        all = holds(alloc, disk, name, bytes)? && all;
+    }
+    Ok(all)
 }
 
 /// Puts an empty file of this name on the disk.

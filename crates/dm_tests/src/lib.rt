@@ -4,10 +4,12 @@
 #[cfg(test)]
 mod bench;
 #[cfg(test)]
-mod first_file;
-#[cfg(test)]
 mod list;
 #[cfg(test)]
 mod replies;
 #[cfg(test)]
+mod rows;
+#[cfg(test)]
 mod socket;
+#[cfg(test)]
+mod stops;

@@ -1,6 +1,5 @@
 // The commands of the list through the top call, one run after another on one disk.
-use crate::bench::{Outcome, Outside, disk, output, run, start, texts};
-use crate::first_file::is_printed;
+use crate::bench::{Outcome, Outside, disk, is_printed, output, run, start, texts};
 use dm_disk::MemoryDisk;
 use dm_edge::{NetFails, NetScript, SinkMem, WireScripts};
 use dm_types::NoMemory;
@@ -17,7 +16,7 @@ fn ask(alloc: Global, words: &[&[u8]], disk: MemoryDisk) -> Result<Outcome, NoMe
 
 /// The disk after one item was added to an empty list.
 fn added(alloc: Global) -> Result<MemoryDisk, NoMemory> {
-    let ran = ask(alloc, ADD, disk(alloc, None)?)?;
+    let ran = ask(alloc, ADD, disk(alloc)?)?;
     Ok(ran.disk)
 }
 
@@ -46,7 +45,7 @@ fn is_cut_off(alloc: Global) -> Result<bool, NoMemory> {
 #[test]
 fn an_item_is_added_once(rt: HostRuntime) -> Result<(), Fail> {
     let alloc = rt.alloc();
-    let ran = ask(alloc, ADD, disk(alloc, None)?)?;
+    let ran = ask(alloc, ADD, disk(alloc)?)?;
     assert!(rt; is_printed(&ran, 0, LINE, b""));
     assert!(rt; ends(alloc, ADD, 0, LINE, b"")?);
     Ok(())
@@ -69,12 +68,37 @@ fn each_command_of_the_list_ends_as_it_should(rt: HostRuntime) -> Result<(), Fai
         (&[b"remove", b"1"], 0, b"", b""),
         (&[b"show", b"5"], 3, b"", b"no item 5\n"),
         (&[b"pause", b"5"], 3, b"", b"no item 5\n"),
-        (&[b"resume", b"1"], 2, b"", b"bad words\n"),
         (&[b"add", b"ftp://x/a"], 2, b"", b"bad address\n"),
         (&[b"list", b"x"], 2, b"", b"bad words\n"),
     ];
     for (words, status, out, errs) in cases {
         assert!(rt; ends(alloc, words, *status, out, errs)?);
+    }
+    Ok(())
+}
+
+/// Words that are no command, or one for an address that is none.
+const REFUSED: &[(&[&[u8]], &[u8])] = &[
+    (&[], b"bad words\n"),
+    (&[b"get"], b"bad words\n"),
+    (&[b"get", b"--slices", b"17", b"http://h/a"], b"bad words\n"),
+    (&[b"get", b"--slices", b"0", b"http://h/a"], b"bad words\n"),
+    (&[b"add", b"--slices", b"1", b"http://h/a"], b"bad words\n"),
+    (&[b"resume"], b"bad words\n"),
+    (&[b"resume", b"--slices", b"x", b"1"], b"bad words\n"),
+    (&[b"pause"], b"bad words\n"),
+    (&[b"cancel", b"x"], b"bad words\n"),
+    (&[b"remove", b"1", b"2"], b"bad words\n"),
+    (&[b"get", b"ftp://x/a"], b"bad address\n"),
+    (&[b"get", b"--name", b"a", b"http://u@h/"], b"bad address\n"),
+];
+
+#[test]
+fn refused_words_do_nothing(rt: HostRuntime) -> Result<(), Fail> {
+    let alloc = rt.alloc();
+    for (words, errs) in REFUSED {
+        let ran = ask(alloc, words, disk(alloc)?)?;
+        assert!(rt; is_printed(&ran, 2, b"", errs) && ran.requests.is_empty());
     }
     Ok(())
 }

@@ -1,12 +1,26 @@
 // Every reply, every cause: the line that each ends with.
-use crate::bench::{Outcome, Outside, disk, holds, run};
-use crate::first_file::{
-    CUT_IN_CONTENT, CUT_IN_HEAD, HELLO, LINE, WORDS, is_interrupted, is_printed,
-};
+use crate::bench::{Outcome, Outside, disk, holds, is_printed, length_of, run};
 use dm_edge::{NetFault, WireFault};
 use dm_types::NoMemory;
 use std::alloc::Global;
 use std::test::Fail;
+
+const WORDS: &[&[u8]] = &[
+    b"get",
+    b"--name",
+    b"hello.txt",
+    b"http://files.example/a/hello.txt",
+];
+
+const HELLO: &[u8] = b"HTTP/1.1 200 OK\r\nContent-Length: 11\r\n\r\nhello world";
+
+const HELLO_HEAD: usize = 39;
+
+const LINE: &[u8] = b"1 complete 11 11 hello.txt\n";
+
+const CUT_IN_HEAD: &[u8] = b"interrupted 20 NETWORK_FAILED\n";
+
+const CUT_IN_CONTENT: &[u8] = b"interrupted 38 SERVER_CONTENT_LENGTH_MISMATCH\n";
 
 const CHUNKED: &[u8] =
     b"HTTP/1.1 200 OK\r\nTransfer-Encoding: chunked\r\n\r\n5\r\nhello\r\n6\r\n world\r\n0\r\n\r\n";
@@ -26,15 +40,17 @@ const BAD_CONTENT: &[u8] = b"interrupted 33 SERVER_BAD_CONTENT\n";
 
 /// Whether these streams bring `hello world`.
 fn is_brought(alloc: Global, streams: &[&[u8]], outside: Outside) -> Result<bool, NoMemory> {
-    let mut ran = run(alloc, WORDS, streams, disk(alloc, None)?, outside)?;
+    let mut ran = run(alloc, WORDS, streams, disk(alloc)?, outside)?;
     let is_told = is_printed(&ran, 0, LINE, b"");
     Ok(is_told && holds(alloc, &mut ran.disk, b"hello.txt", b"hello world")?)
 }
 
-/// Whether the one stream is interrupted so by an outside like this.
-fn fails_with(alloc: Global, outside: Outside, errs: &[u8]) -> Result<bool, NoMemory> {
-    let ran = run(alloc, WORDS, &[HELLO], disk(alloc, None)?, outside)?;
-    Ok(is_printed(&ran, 1, b"", errs))
+/// Whether connections that all say this end so, and leave the name absent.
+fn is_interrupted(alloc: Global, stream: &[u8], errs: &[u8]) -> Result<bool, NoMemory> {
+    let mut ran = run(alloc, WORDS, &[stream; 6], disk(alloc)?, Outside::SOUND)?;
+    let told = ran.status == 1 && ran.out.bytes().starts_with(b"1 interrupted:");
+    let absent = length_of(alloc, &mut ran.disk, b"hello.txt")?.is_none();
+    Ok(told && absent && ran.errs.bytes() == errs)
 }
 
 /// Whether the connection at this place was asked for this at this host.
@@ -57,20 +73,26 @@ fn chunks_come_byte_by_byte(rt: HostRuntime) -> Result<(), Fail> {
     Ok(())
 }
 
-#[test]
-fn chunks_end_anywhere(rt: HostRuntime) -> Result<(), Fail> {
-    let alloc = rt.alloc();
-    for end in 0..CHUNKED.len() {
-        let errs = if end < CHUNKED_HEAD {
+/// The first front of the stream that doesn't end as one that is cut off.
+fn ends_anywhere(alloc: Global, stream: &[u8], head: usize) -> Result<Option<usize>, NoMemory> {
+    for end in 0..stream.len() {
+        let errs = if end < head {
             CUT_IN_HEAD
         } else {
             CUT_IN_CONTENT
         };
-        assert!(rt;
-            is_interrupted(alloc, &CHUNKED[..end], errs)?,
-            "ended at {end}"
-        );
+        if !is_interrupted(alloc, &stream[..end], errs)? {
+            return Ok(Some(end));
+        }
     }
+    Ok(None)
+}
+
+#[test]
+fn a_stream_cut_anywhere_leaves_no_name(rt: HostRuntime) -> Result<(), Fail> {
+    let alloc = rt.alloc();
+    assert_eq!(rt; ends_anywhere(alloc, HELLO, HELLO_HEAD)?, None);
+    assert_eq!(rt; ends_anywhere(alloc, CHUNKED, CHUNKED_HEAD)?, None);
     Ok(())
 }
 
@@ -78,7 +100,7 @@ fn chunks_end_anywhere(rt: HostRuntime) -> Result<(), Fail> {
 fn a_content_goes_on_to_the_end(rt: HostRuntime) -> Result<(), Fail> {
     let alloc = rt.alloc();
     let stream = b"HTTP/1.1 200 OK\r\n\r\nhello";
-    let mut ran = run(alloc, WORDS, &[stream], disk(alloc, None)?, Outside::SOUND)?;
+    let mut ran = run(alloc, WORDS, &[stream], disk(alloc)?, Outside::SOUND)?;
     assert!(rt; is_printed(&ran, 0, b"1 complete 5 5 hello.txt\n", b""));
     assert!(rt; holds(alloc, &mut ran.disk, b"hello.txt", b"hello")?);
     Ok(())
@@ -116,32 +138,98 @@ fn each_reply_has_its_reason(rt: HostRuntime) -> Result<(), Fail> {
     Ok(())
 }
 
+/// What a failing call of the net ends with, where the next connection is sound.
+const FAULTS: &[(Outside, u8, &[u8], &[u8])] = &[
+    (
+        Outside {
+            connect: Some(NetFault::Failed),
+            ..Outside::SOUND
+        },
+        1,
+        b"1 interrupted:20 0 ? -\n",
+        CUT_IN_HEAD,
+    ),
+    (
+        Outside {
+            connect: Some(NetFault::NoRoute),
+            ..Outside::SOUND
+        },
+        1,
+        b"1 interrupted:22 0 ? -\n",
+        b"interrupted 22 NETWORK_DISCONNECTED\n",
+    ),
+    (
+        Outside {
+            connect: Some(NetFault::Timeout),
+            ..Outside::SOUND
+        },
+        0,
+        LINE,
+        b"",
+    ),
+    // the send and the receive
+    (
+        Outside {
+            wire: Some((0, WireFault::Failed)),
+            ..Outside::SOUND
+        },
+        1,
+        b"1 interrupted:20 0 ? -\n",
+        CUT_IN_HEAD,
+    ),
+    (
+        Outside {
+            wire: Some((1, WireFault::Failed)),
+            ..Outside::SOUND
+        },
+        1,
+        b"1 interrupted:20 0 ? -\n",
+        CUT_IN_HEAD,
+    ),
+];
+
+/// What is said where a write fails.
+const CUT_OFF: &[(&[u8], Outside, u8, &[u8])] = &[
+    (
+        HELLO,
+        Outside {
+            out: Some(0),
+            ..Outside::SOUND
+        },
+        7,
+        b"",
+    ),
+    (
+        b"HTTP/1.1 404 Not Found\r\n\r\n",
+        Outside {
+            errs: Some(0),
+            ..Outside::SOUND
+        },
+        7,
+        b"1 interrupted:33 0 ? -\n",
+    ),
+    (
+        HELLO,
+        Outside {
+            errs: Some(0),
+            ..Outside::SOUND
+        },
+        0,
+        LINE,
+    ),
+];
+
 #[test]
 fn each_fault_has_its_reason(rt: HostRuntime) -> Result<(), Fail> {
     let alloc = rt.alloc();
-    let cases: &[(NetFault, &[u8])] = &[
-        (NetFault::Failed, CUT_IN_HEAD),
-        (NetFault::Timeout, b"interrupted 21 NETWORK_TIMEOUT\n"),
-        (NetFault::NoRoute, b"interrupted 22 NETWORK_DISCONNECTED\n"),
-        (NetFault::Refused, b"interrupted 23 NETWORK_SERVER_DOWN\n"),
-    ];
-    for (fault, errs) in cases {
-        let outside = Outside {
-            connect: Some(*fault),
-            ..Outside::SOUND
-        };
-        assert!(rt; fails_with(alloc, outside, errs)?);
+    for (outside, status, out, errs) in FAULTS {
+        let ran = run(alloc, WORDS, &[HELLO], disk(alloc)?, *outside)?;
+        assert!(rt; is_printed(&ran, *status, out, errs));
     }
-    Ok(())
-}
-
-#[test]
-fn a_wire_that_waits_is_told(rt: HostRuntime) -> Result<(), Fail> {
-    let outside = Outside {
-        wire: Some((1, WireFault::Timeout)),
-        ..Outside::SOUND
-    };
-    assert!(rt; fails_with(rt.alloc(), outside, b"interrupted 21 NETWORK_TIMEOUT\n")?);
+    for (stream, outside, status, out) in CUT_OFF {
+        let ran = run(alloc, WORDS, &[*stream], disk(alloc)?, *outside)?;
+        assert!(rt; is_printed(&ran, *status, out, b""));
+    }
     Ok(())
 }
 
@@ -150,7 +238,7 @@ fn redirects_are_followed(rt: HostRuntime) -> Result<(), Fail> {
     let alloc = rt.alloc();
     assert!(rt; is_brought(alloc, &[ELSEWHERE, BESIDE, CHUNKED], Outside::SOUND)?);
     let streams = &[ELSEWHERE, BESIDE, HELLO];
-    let ran = run(alloc, WORDS, streams, disk(alloc, None)?, Outside::SOUND)?;
+    let ran = run(alloc, WORDS, streams, disk(alloc)?, Outside::SOUND)?;
     assert!(rt;
         asked(
             &ran,
@@ -173,8 +261,8 @@ fn redirects_are_followed(rt: HostRuntime) -> Result<(), Fail> {
 fn ten_redirects_are_followed_and_no_more(rt: HostRuntime) -> Result<(), Fail> {
     let alloc = rt.alloc();
     let mut streams = [BESIDE; 12];
-    let ran = run(alloc, WORDS, &streams, disk(alloc, None)?, Outside::SOUND)?;
-    assert!(rt; is_printed(&ran, 1, b"", BAD_REQUEST));
+    let ran = run(alloc, WORDS, &streams, disk(alloc)?, Outside::SOUND)?;
+    assert!(rt; is_printed(&ran, 1, b"1 interrupted:24 0 ? -\n", BAD_REQUEST));
     assert!(rt; ran.requests.len() == 11);
     streams[10] = HELLO;
     assert!(rt; is_brought(alloc, &streams, Outside::SOUND)?);

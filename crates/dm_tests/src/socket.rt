@@ -21,7 +21,7 @@ fn serve(listener: &TcpListener) -> io::Result<()> {
 /// Whether a file is brought from this address, and told.
 fn arrives<N: Net>(alloc: Global, address: &[u8], net: &mut N) -> Result<bool, NoMemory> {
     let words = texts(alloc, &[b"get", b"--name", b"hello.txt", address])?;
-    let there = disk(alloc, None)?;
+    let there = disk(alloc)?;
     let mut out = output(alloc, None)?;
     let mut errs = output(alloc, None)?;
     let mut ran = start(alloc, &words, there, net, &mut out, &mut errs)?;

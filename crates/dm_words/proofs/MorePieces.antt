@@ -12,7 +12,7 @@ use Rattle.dm_words.specs.Pieces.{ArePieces, AreOnce, IsOperand, IsOption, Setti
 use Rattle.dm_words.specs.Table.{options_of}
 use Rattle.dm_words.specs.Reading.{IsSetting, SaysRest, word_after}
 use Rattle.dm_words.specs.declared.table.CommandName.{CommandName}
-use Rattle.dm_words.specs.declared.table.CommandName.TheVariants.{Get, Add, Resume, Pause, Cancel, Remove, Show, List as ListAll}
+use Rattle.dm_words.specs.declared.table.CommandName.TheVariants.{Get, Add, Resume, Pause, Cancel, Remove, Show, List as ListAll, Report, Export, Archive, History, Import, Rehearse, Serve}
 use Rattle.dm_words.proofs.OnePieces.{apart, begins, by_operand, by_option}
 use Rattle.dm_words.proofs.Texts.{any_none, any_first, any_later, any_cases}
 
@@ -36,6 +36,18 @@ sha256_option = dashed (codes "ha256") 115
 slices_option : IsOption (codes "--slices")
 slices_option = dashed (codes "lices") 115
 
+after_option : IsOption (codes "--after")
+after_option = dashed (codes "fter") 97
+
+limit_option : IsOption (codes "--limit")
+limit_option = dashed (codes "imit") 108
+
+port_option : IsOption (codes "--port")
+port_option = dashed (codes "ort") 112
+
+workers_option : IsOption (codes "--workers")
+workers_option = dashed (codes "orkers") 119
+
 with_wish : (rest : List (List ℕ)) → All IsOption rest → All IsOption (codes "--word" ∷ codes "--name" ∷ codes "--sha256" ∷ rest)
 with_wish rest all =
     All-cons IsOption (codes "--word") (codes "--name" ∷ codes "--sha256" ∷ rest) word_option
@@ -43,6 +55,9 @@ with_wish rest all =
 
 slices_alone : All IsOption (codes "--slices" ∷ [])
 slices_alone = All-cons IsOption (codes "--slices") [] slices_option none_options
+
+two_options : (first second : List ℕ) → IsOption first → IsOption second → All IsOption (first ∷ second ∷ [])
+two_options first second is other = All-cons IsOption first (second ∷ []) is (All-cons IsOption second [] other none_options)
 
 all_options : (name : CommandName) → All IsOption (options_of name)
 all_options Get = with_wish (codes "--slices" ∷ []) slices_alone
@@ -53,6 +68,13 @@ all_options Cancel = none_options
 all_options Remove = none_options
 all_options Show = none_options
 all_options ListAll = none_options
+all_options Report = none_options
+all_options Export = none_options
+all_options Archive = none_options
+all_options History = two_options (codes "--after") (codes "--limit") after_option limit_option
+all_options Import = none_options
+all_options Rehearse = none_options
+all_options Serve = two_options (codes "--port") (codes "--workers") port_option workers_option
 
 is_option : (name : CommandName) (option : List ℕ) → Contains (options_of name) option → IsOption option
 is_option name option known = All-contains IsOption (options_of name) option (all_options name) known
@@ -231,6 +253,10 @@ pub record HasValues (words : List (List ℕ)) (settings : List Setting) : Type 
   pub name : word_after (codes "--name") words ≡ value_of (codes "--name") settings
   pub sha256 : word_after (codes "--sha256") words ≡ value_of (codes "--sha256") settings
   pub slices : word_after (codes "--slices") words ≡ value_of (codes "--slices") settings
+  pub after : word_after (codes "--after") words ≡ value_of (codes "--after") settings
+  pub limit : word_after (codes "--limit") words ≡ value_of (codes "--limit") settings
+  pub port : word_after (codes "--port") words ≡ value_of (codes "--port") settings
+  pub workers : word_after (codes "--workers") words ≡ value_of (codes "--workers") settings
 
 pub has_values : (words : List (List ℕ)) (settings : List Setting) (operands : List (List ℕ)) → ArePieces words settings operands → HasValues words settings
 has_values words settings operands pieces = record {
@@ -238,4 +264,8 @@ has_values words settings operands pieces = record {
   name = value_is (codes "--name") name_option words settings operands pieces;
   sha256 = value_is (codes "--sha256") sha256_option words settings operands pieces;
   slices = value_is (codes "--slices") slices_option words settings operands pieces;
+  after = value_is (codes "--after") after_option words settings operands pieces;
+  limit = value_is (codes "--limit") limit_option words settings operands pieces;
+  port = value_is (codes "--port") port_option words settings operands pieces;
+  workers = value_is (codes "--workers") workers_option words settings operands pieces;
 }

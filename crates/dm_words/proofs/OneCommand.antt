@@ -1,22 +1,23 @@
 -- Words ask one thing.
 use Rattle.std.proofs.Common.{◌≡◌, ◌≢◌, ℕ, ◌<◌, List, ◌∷◌, length, if◌then◌else◌, Option, Some, None, Result, refl, sym, ◌∙◌, ap, subst, arith, codes}
-use Rattle.std.specs.Prelude.{IfOk}
+use Rattle.std.specs.Prelude.{IfOk, OnErr}
 use Rattle.std.specs.Option.{option_to_list}
 use Rattle.std.specs.Str.{bytes_eq}
 use Rattle.std.proofs.lemmas.Result.{IfOk-weaker}
-use Rattle.dm_words.specs.Pieces.{ArePieces, Setting, value_of}
+use Rattle.dm_words.specs.Pieces.{ArePieces, Setting}
 use Rattle.dm_words.specs.Table.{AreFor, name_of}
-use Rattle.dm_words.specs.Asked.{Adds, Asked, Asks, Cancels, Gets, IsIdOf, IsTold, IsWish, Lists, Makes, Pauses, Removes, Resumes, Shows, Told, WishOf, asked, command_of, told_by}
+use Rattle.dm_words.specs.Asked.{Adds, Archives, Asked, Asks, Cancels, Exports, Gets, Histories, Imports, IsFileOf, IsIdOf, IsPage, IsService, IsTold, IsWish, Lists, Makes, Pauses, Rehearses, Removes, Reports, Resumes, Serves, Shows, Told, WishOf, asked, command_of, told_by}
 use Rattle.dm_words.specs.Values.{IsNumber, IsSlices}
 use Rattle.dm_words.specs.Reading.{IsMade, SaysRest, word_after}
 use Rattle.dm_words.specs.declared.command.Command.{Command}
+use Rattle.dm_words.specs.declared.command.Command.TheVariants as commands
 use Rattle.dm_words.specs.declared.command.BadWords.{BadWords}
 use Rattle.dm_words.specs.declared.table.CommandName.{CommandName}
-use Rattle.dm_words.specs.declared.table.CommandName.TheVariants.{Get, Add, Resume, Pause, Cancel, Remove, Show, List as ListAll}
+use Rattle.dm_words.specs.declared.table.CommandName.TheVariants.{Get, Add, Resume, Pause, Cancel, Remove, Show, List as ListAll, Report, Export, Archive, History, Import, Rehearse, Serve}
 use Rattle.dm_words.proofs.MorePieces.{has_values}
 use Rattle.dm_words.proofs.OnePieces.{one_pieces}
-use Rattle.dm_words.proofs.Texts.{same_option}
-use Rattle.dm_words.proofs.OneValue.{one_digest, one_number, one_slices}
+use Rattle.dm_words.proofs.Texts.{on_err, same_option}
+use Rattle.dm_words.proofs.OneValue.{one_after, one_digest, one_limit, one_number, one_port, one_slices}
 
 -- ---- a name is of one command
 
@@ -29,7 +30,14 @@ named word =
     else (if bytes_eq word (codes "cancel") then Some Cancel
     else (if bytes_eq word (codes "remove") then Some Remove
     else (if bytes_eq word (codes "show") then Some Show
-    else (if bytes_eq word (codes "list") then Some ListAll else None)))))))
+    else (if bytes_eq word (codes "list") then Some ListAll
+    else (if bytes_eq word (codes "report") then Some Report
+    else (if bytes_eq word (codes "export") then Some Export
+    else (if bytes_eq word (codes "archive") then Some Archive
+    else (if bytes_eq word (codes "history") then Some History
+    else (if bytes_eq word (codes "import") then Some Import
+    else (if bytes_eq word (codes "rehearse") then Some Rehearse
+    else (if bytes_eq word (codes "serve") then Some Serve else None))))))))))))))
 
 named_back : (name : CommandName) → named (name_of name) ≡ Some name
 unfolding named
@@ -41,6 +49,13 @@ named_back Cancel = refl
 named_back Remove = refl
 named_back Show = refl
 named_back ListAll = refl
+named_back Report = refl
+named_back Export = refl
+named_back Archive = refl
+named_back History = refl
+named_back Import = refl
+named_back Rehearse = refl
+named_back Serve = refl
 
 one_name : (a b : CommandName) → name_of a ≡ name_of b → a ≡ b
 one_name a b same = let both : Some a ≡ Some b = sym (named_back a) ∙ ap named same ∙ named_back b in cc
@@ -81,6 +96,9 @@ one_id told first second is other =
     let same : other.digits ≡ is.digits = cc in
     one_number is.digits first second is.is_id (subst (λ (d : List ℕ). IsNumber d second) same other.is_id)
 
+one_file : (told : Told) (first second : List ℕ) → IsFileOf told first → IsFileOf told second → first ≡ second
+one_file told first second is other = let both : Some first ≡ Some second = sym is.operand_is ∙ other.operand_is in cc
+
 one_made : (told : Told) (a b : Asked) → command_of a ≡ command_of b → Makes a told → Makes b told → b ≡ a
 one_made told (Gets wish slices) (Gets other many) same is again =
     ap (λ (w : WishOf). Gets w many) (one_wish told other wish again.0 is.0) ∙ ap (Gets wish) (one_slices told.slices many slices again.1 is.1)
@@ -100,6 +118,21 @@ one_made told (Shows id) (Shows other) same is again = ap Shows (one_id told oth
 one_made told (Shows id) other same is again = absurd cc
 one_made told Lists Lists same is again = refl
 one_made told Lists other same is again = absurd cc
+one_made told Reports Reports same is again = refl
+one_made told Reports other same is again = absurd cc
+one_made told Exports Exports same is again = refl
+one_made told Exports other same is again = absurd cc
+one_made told Archives Archives same is again = refl
+one_made told Archives other same is again = absurd cc
+one_made told (Histories after limit) (Histories other many) same is again =
+    ap (λ (a : ℕ). Histories a many) (one_after told.after other after again.after_is is.after_is) ∙ ap (Histories after) (one_limit told.limit many limit again.limit_is is.limit_is)
+one_made told (Histories after limit) other same is again = absurd cc
+one_made told (Imports name) (Imports other) same is again = ap Imports (one_file told other name again is)
+one_made told (Imports name) other same is again = absurd cc
+one_made told (Rehearses number) (Rehearses other) same is again = ap Rehearses (one_id told other number again is)
+one_made told (Rehearses number) other same is again = absurd cc
+one_made told (Serves port) (Serves other) same is again = ap Serves (one_port told.port other port again.port_is is.port_is)
+one_made told (Serves port) other same is again = absurd cc
 
 -- words ask one thing
 pub one_asked : (words : List (List ℕ)) (a b : Asked) → Asks words a → Asks words b → b ≡ a
@@ -114,19 +147,30 @@ alone result words whole same ok =
 
 -- ---- what is told from what was read
 
+same_told : (a b : Told) → a.word ≡ b.word → a.name ≡ b.name → a.sha256 ≡ b.sha256 → a.slices ≡ b.slices → a.after ≡ b.after → a.limit ≡ b.limit → a.port ≡ b.port → a.workers ≡ b.workers → a.operand ≡ b.operand → a ≡ b
+same_told a b word name sha256 slices after limit port workers operand =
+    ap (λ (o : Option (List ℕ)). record a { word = o }) word
+    ∙ ap (λ (o : Option (List ℕ)). record a { word = b.word; name = o }) name
+    ∙ ap (λ (o : Option (List ℕ)). record a { word = b.word; name = b.name; sha256 = o }) sha256
+    ∙ ap (λ (o : Option (List ℕ)). record a { word = b.word; name = b.name; sha256 = b.sha256; slices = o }) slices
+    ∙ ap (λ (o : Option (List ℕ)). record b { after = o; limit = a.limit; port = a.port; workers = a.workers; operand = a.operand }) after
+    ∙ ap (λ (o : Option (List ℕ)). record b { limit = o; port = a.port; workers = a.workers; operand = a.operand }) limit
+    ∙ ap (λ (o : Option (List ℕ)). record b { port = o; workers = a.workers; operand = a.operand }) port
+    ∙ ap (λ (o : Option (List ℕ)). record b { workers = o; operand = a.operand }) workers
+    ∙ ap (λ (o : Option (List ℕ)). record b { operand = o }) operand
+
 pub told_from : (name : CommandName) (words : List (List ℕ)) (operand : Option (List ℕ)) (told : Told) → SaysRest name None words operand → told.word ≡ word_after (codes "--word") words
-    → told.name ≡ word_after (codes "--name") words → told.sha256 ≡ word_after (codes "--sha256") words → told.slices ≡ word_after (codes "--slices") words → told.operand ≡ operand → IsTold name (name_of name ∷ words) told
-told_from name words operand told says word wish sha256 slices last =
+    → told.name ≡ word_after (codes "--name") words → told.sha256 ≡ word_after (codes "--sha256") words → told.slices ≡ word_after (codes "--slices") words
+    → told.after ≡ word_after (codes "--after") words → told.limit ≡ word_after (codes "--limit") words → told.port ≡ word_after (codes "--port") words → told.workers ≡ word_after (codes "--workers") words
+    → told.operand ≡ operand → IsTold name (name_of name ∷ words) told
+told_from name words operand told says word wish sha256 slices after limit port workers last =
     let values = has_values words says.settings says.operands says.has.pieces in
     record {
       settings = says.settings;
       operand = operand;
       is = record { rest = words; is = refl; has = subst (AreFor name words says.settings) says.operand_is says.has };
-      told_is = ap (λ (o : Option (List ℕ)). record told { word = o }) (word ∙ values.word)
-          ∙ ap (λ (o : Option (List ℕ)). record told { word = value_of (codes "--word") says.settings; name = o }) (wish ∙ values.name)
-          ∙ ap (λ (o : Option (List ℕ)). record told { word = value_of (codes "--word") says.settings; name = value_of (codes "--name") says.settings; sha256 = o }) (sha256 ∙ values.sha256)
-          ∙ ap (λ (o : Option (List ℕ)). record told { word = value_of (codes "--word") says.settings; name = value_of (codes "--name") says.settings; sha256 = value_of (codes "--sha256") says.settings; slices = o }) (slices ∙ values.slices)
-          ∙ ap (told_by says.settings) last;
+      told_is = same_told told (told_by says.settings operand) (word ∙ values.word) (wish ∙ values.name) (sha256 ∙ values.sha256) (slices ∙ values.slices) (after ∙ values.after) (limit ∙ values.limit)
+          (port ∙ values.port) (workers ∙ values.workers) last;
     }
 
 pub told_says : (name : CommandName) (words : List (List ℕ)) (told : Told) → IsTold name (name_of name ∷ words) told → (operand : Option (List ℕ)) × SaysRest name None words operand
@@ -172,27 +216,74 @@ pub no_resume : (told : Told) → ((id slices : ℕ) → IsIdOf told id → IsSl
 no_resume told none (Resumes id slices) made = none id slices made.makes.0 made.makes.1
 no_resume told none other made = let named = made.named in absurd cc
 
-pub no_list : (told : Told) → (told.operand ≢ None) → (other : Asked) → IsMade ListAll told other → ⊥
-no_list told some Lists made = some made.makes
-no_list told some other made = let named = made.named in absurd cc
+pub no_history : (told : Told) → ((after limit : ℕ) → IsPage told after limit → ⊥) → (other : Asked) → IsMade History told other → ⊥
+no_history told none (Histories after limit) made = none after limit made.makes
+no_history told none other made = let named = made.named in absurd cc
 
--- commands that are told an id and nothing else
+pub no_import : (told : Told) → ((name : List ℕ) → IsFileOf told name → ⊥) → (other : Asked) → IsMade Import told other → ⊥
+no_import told none (Imports name) made = none name made.makes
+no_import told none other made = let named = made.named in absurd cc
+
+pub no_serve : (told : Told) → ((port : ℕ) → IsService told port → ⊥) → (other : Asked) → IsMade Serve told other → ⊥
+no_serve told none (Serves port) made = none port made.makes
+no_serve told none other made = let named = made.named in absurd cc
+
+-- commands that are told nothing
+abbrev pub ByNothing : CommandName → Type 0
+ByNothing ListAll = Unit {0}
+ByNothing Report = Unit {0}
+ByNothing Export = Unit {0}
+ByNothing Archive = Unit {0}
+ByNothing _ = ⊥
+
+pub no_bare : (name : CommandName) (told : Told) → ByNothing name → told.operand ≢ None → (other : Asked) → IsMade name told other → ⊥
+no_bare name told by some Lists made = some made.makes
+no_bare name told by some Reports made = some made.makes
+no_bare name told by some Exports made = some made.makes
+no_bare name told by some Archives made = some made.makes
+no_bare name told by some (Gets wish slices) made = subst ByNothing (sym made.named) by
+no_bare name told by some (Adds wish) made = subst ByNothing (sym made.named) by
+no_bare name told by some (Resumes id slices) made = subst ByNothing (sym made.named) by
+no_bare name told by some (Pauses id) made = subst ByNothing (sym made.named) by
+no_bare name told by some (Cancels id) made = subst ByNothing (sym made.named) by
+no_bare name told by some (Removes id) made = subst ByNothing (sym made.named) by
+no_bare name told by some (Shows id) made = subst ByNothing (sym made.named) by
+no_bare name told by some (Histories after limit) made = subst ByNothing (sym made.named) by
+no_bare name told by some (Imports file) made = subst ByNothing (sym made.named) by
+no_bare name told by some (Rehearses number) made = subst ByNothing (sym made.named) by
+no_bare name told by some (Serves port) made = subst ByNothing (sym made.named) by
+
+-- commands that are told a number and nothing else
 abbrev pub ById : CommandName → Type 0
 ById Pause = Unit {0}
 ById Cancel = Unit {0}
 ById Remove = Unit {0}
 ById Show = Unit {0}
-ById Get = ⊥
-ById Add = ⊥
-ById Resume = ⊥
-ById ListAll = ⊥
+ById Rehearse = Unit {0}
+ById _ = ⊥
 
 pub no_id : (name : CommandName) (told : Told) → ById name → ((id : ℕ) → IsIdOf told id → ⊥) → (other : Asked) → IsMade name told other → ⊥
 no_id name told by none (Pauses id) made = none id made.makes
 no_id name told by none (Cancels id) made = none id made.makes
 no_id name told by none (Removes id) made = none id made.makes
 no_id name told by none (Shows id) made = none id made.makes
+no_id name told by none (Rehearses number) made = none number made.makes
 no_id name told by none (Gets wish slices) made = subst ById (sym made.named) by
 no_id name told by none (Adds wish) made = subst ById (sym made.named) by
 no_id name told by none (Resumes id slices) made = subst ById (sym made.named) by
 no_id name told by none Lists made = subst ById (sym made.named) by
+no_id name told by none Reports made = subst ById (sym made.named) by
+no_id name told by none Exports made = subst ById (sym made.named) by
+no_id name told by none Archives made = subst ById (sym made.named) by
+no_id name told by none (Histories after limit) made = subst ById (sym made.named) by
+no_id name told by none (Imports file) made = subst ById (sym made.named) by
+no_id name told by none (Serves port) made = subst ById (sym made.named) by
+
+-- ---- the port of a service
+
+module _ (words : List (List ℕ)) (whole : Asked) (asks : Asks words whole) (only : (other : Asked) → Asks words other → other ≡ whole) where
+  pub ok_serve : (result : Result ℕ BadWords) → IfOk result (λ port. whole ≡ Serves port) → IfOk result (λ port. Asks words (Serves port))
+  ok_serve result ok = IfOk-weaker result (λ port. whole ≡ Serves port) (λ port. Asks words (Serves port)) (λ port is. subst (Asks words) is asks) ok
+
+  pub no_serve_asked : (result : Result ℕ BadWords) → OnErr result ((port : ℕ) → whole ≢ Serves port) → OnErr result ((port : ℕ) → Asks words (Serves port) → ⊥)
+  no_serve_asked result err = on_err result _ _ err (λ none port serves. none port (sym (only (Serves port) serves)))

@@ -11,7 +11,7 @@ use Rattle.dm_words.specs.declared.table.CommandName.{CommandName}
 
 -- what was read
 abbrev pub told_of : Pieces → Told
-told_of pieces = record { word = option_copied pieces.word; name = option_copied pieces.name; sha256 = option_copied pieces.sha256; slices = option_copied pieces.slices; operand = option_copied pieces.operand }
+told_of pieces = record { word = option_copied pieces.word; name = option_copied pieces.name; sha256 = option_copied pieces.sha256; slices = option_copied pieces.slices; after = option_copied pieces.after; limit = option_copied pieces.limit; port = option_copied pieces.port; workers = option_copied pieces.workers; operand = option_copied pieces.operand }
 
 -- the word behind the first that is the option
 abbrev pub word_after : List ℕ → List (List ℕ) → Option (List ℕ)

@@ -3,7 +3,7 @@ use Rattle.std.specs.Prelude.{◌≡◌, ℕ, List, [], ◌∷◌, codes}
 use Rattle.std.specs.List.{All, Contains}
 use Rattle.dm_words.specs.Pieces.{ArePieces, AreOnce, Setting}
 use Rattle.dm_words.specs.declared.table.CommandName.{CommandName}
-use Rattle.dm_words.specs.declared.table.CommandName.TheVariants.{Get, Add, Resume, Pause, Cancel, Remove, Show, List as ListAll}
+use Rattle.dm_words.specs.declared.table.CommandName.TheVariants.{Get, Add, Resume, Pause, Cancel, Remove, Show, List as ListAll, Report, Export, Archive, History, Import, Rehearse, Serve}
 
 -- the first word
 abbrev pub name_of : CommandName → List ℕ
@@ -15,6 +15,13 @@ name_of Cancel = codes "cancel"
 name_of Remove = codes "remove"
 name_of Show = codes "show"
 name_of ListAll = codes "list"
+name_of Report = codes "report"
+name_of Export = codes "export"
+name_of Archive = codes "archive"
+name_of History = codes "history"
+name_of Import = codes "import"
+name_of Rehearse = codes "rehearse"
+name_of Serve = codes "serve"
 
 -- the options that may be set
 abbrev pub options_of : CommandName → List (List ℕ)
@@ -26,6 +33,13 @@ options_of Cancel = []
 options_of Remove = []
 options_of Show = []
 options_of ListAll = []
+options_of Report = []
+options_of Export = []
+options_of Archive = []
+options_of History = codes "--after" ∷ codes "--limit" ∷ []
+options_of Import = []
+options_of Rehearse = []
+options_of Serve = codes "--port" ∷ codes "--workers" ∷ []
 
 -- The words are pieces. Their options are some of the command's, each at most once.
 pub record AreFor (name : CommandName) (words : List (List ℕ)) (settings : List Setting) (operands : List (List ℕ)) : Type 0 where

@@ -1,5 +1,5 @@
 -- The rules of what is said with a command.
-use Rattle.std.specs.Prelude.{◌≡◌, ℕ, ◌<◌, ◌≤◌, ◌^◌, Bool, ◌||◌, ◌==◌, List, length, Option, Some, None, IsTrue, Ok}
+use Rattle.std.specs.Prelude.{◌≡◌, ◌⊎◌, ℕ, ◌<◌, ◌≤◌, ◌^◌, Bool, not, ◌||◌, ◌==◌, List, length, codes, Option, Some, None, IsTrue, Ok}
 use Rattle.std.specs.List.{list_all}
 use Rattle.std.specs.Char.{is_ascii_alphanumeric}
 use Rattle.std.specs.Str.{IsUtf8}
@@ -40,13 +40,47 @@ pub record IsNumber (digits : List ℕ) (number : ℕ) : Type 0 where
   pub value : number ≡ digits_value 10 digits
   pub fits : number < 2 ^ 32
 
--- a number of 1 to 16
-pub record IsSlicesOf (digits : List ℕ) (slices : ℕ) : Type 0 where
-  pub number : IsNumber digits slices
-  pub some : 1 ≤ slices
-  pub few : slices ≤ 16
+-- a number of 1 to so many
+pub record IsUpTo (most : ℕ) (digits : List ℕ) (number : ℕ) : Type 0 where
+  pub is_number : IsNumber digits number
+  pub some : 1 ≤ number
+  pub few : number ≤ most
 
--- in how many slices the content is asked for: one, where nothing is said
+-- in how many slices the content is asked for: 1 to 16, and one where nothing is said
 abbrev pub IsSlices : Option (List ℕ) → ℕ → Type 0
 IsSlices None slices = slices ≡ 1
-IsSlices (Some digits) slices = IsSlicesOf digits slices
+IsSlices (Some digits) slices = IsUpTo 16 digits slices
+
+-- neither a slash nor the byte 0
+abbrev pub is_file_byte : ℕ → Bool
+is_file_byte b = not (b == 47 || b == 0)
+
+-- `.` or `..`, which are folders
+abbrev pub AreDots : List ℕ → Type 0
+AreDots name = (name ≡ codes ".") ⊎ (name ≡ codes "..")
+
+-- the name of a file in the folder of files: such a name with no slash and no byte 0, which is neither `.` nor `..`
+pub record IsFileName (name : List ℕ) : Type 0 where
+  pub is_name : IsName name
+  pub each : IsTrue (list_all is_file_byte name)
+  pub no_dots : AreDots name → ⊥
+
+-- behind which row: behind none, where nothing is said
+abbrev pub IsAfter : Option (List ℕ) → ℕ → Type 0
+IsAfter None after = after ≡ 0
+IsAfter (Some digits) after = IsNumber digits after
+
+-- how many rows at most: 1 to 100, and 50 where nothing is said
+abbrev pub IsLimit : Option (List ℕ) → ℕ → Type 0
+IsLimit None limit = limit ≡ 50
+IsLimit (Some digits) limit = IsUpTo 100 digits limit
+
+-- the port: 1 to 65535, and 8765 where nothing is said
+abbrev pub IsPort : Option (List ℕ) → ℕ → Type 0
+IsPort None port = port ≡ 8765
+IsPort (Some digits) port = IsUpTo 65535 digits port
+
+-- how many workers bring items meanwhile: none so far
+abbrev pub IsWorkers : Option (List ℕ) → Type 0
+IsWorkers None = Unit {0}
+IsWorkers (Some digits) = IsNumber digits 0

@@ -1,12 +1,15 @@
-ghost use Rattle.std.specs.Prelude.{◌≡◌, ◌∷◌, IfOk, OnErr, IfSome, IfNone, ℕ};
-ghost use Rattle.dm_words.specs.Asked.{Asked, Asks, IsIdOf, IsWish, WishOf, asked, wish_of};
+ghost use Rattle.std.specs.Prelude.{◌≡◌, ◌≢◌, ◌∷◌, IfOk, OnErr, IfSome, IfNone, None, ℕ};
+ghost use Rattle.dm_words.specs.Asked.{Asked, Asks, IsIdOf, IsWish, Serves, WishOf, asked, wish_of};
 ghost use Rattle.dm_words.specs.Reading.{IsMade, told_of};
 ghost use Rattle.dm_words.specs.Table.{name_of};
 ghost use Rattle.dm_words.specs.declared.table.CommandName.TheVariants as names;
 
 use crate::CommandName;
 use crate::pieces::{Pieces, read_pieces};
-use crate::values::{may_be_name, may_be_word, read_digest, read_number, read_slices};
+use crate::values::{
+    asks_no_workers, is_file_name, may_be_name, may_be_word, read_after, read_digest, read_limit,
+    read_number, read_port, read_slices,
+};
 use dm_types::{ItemId, Text};
 
 /// An item that is wanted. It borrows from the words.
@@ -38,6 +41,20 @@ pub enum Command<'a> {
     Show(ItemId),
     /// Print a line for each item.
     List,
+    /// Print how many items are in each state.
+    Report,
+    /// Print the list as CSV.
+    Export,
+    /// Move finished items into the history.
+    Archive,
+    /// Print the rows of the history behind this id, so many at most.
+    History(u32, u32),
+    /// Add what the file of this name tells.
+    Import(&'a [u8]),
+    /// Bring made bytes of this number through losses.
+    Rehearse(u32),
+    /// Serve the list on this port.
+    Serve(u16),
 }
 
 /// The words are no command.
@@ -59,6 +76,28 @@ pub fn read_command(words: &[Text]) -> Result<Command<'_>, BadWords>
             Some(name) => read_named(name, rest),
             None => Err(BadWords),
         },
+    }
+}
+
+/// The port of the service that the words ask for.
+pub fn read_serve(words: &[Text]) -> Result<u16, BadWords>
+    ensures ok { IfOk result (λ port. Asks words.now (Serves port)) }
+    ensures err { OnErr result ((port : ℕ) → ¬ Asks words.now (Serves port)) }
+{
+    match read_command(words) {
+        Ok(command) => port_in(command),
+        Err(BadWords) => Err(BadWords),
+    }
+}
+
+/// The port of a service.
+fn port_in(command: Command<'_>) -> Result<u16, BadWords>
+    ensures ok { IfOk result (λ port. asked command.entry ≡ Serves port) }
+    ensures err { OnErr result ((port : ℕ) → asked command.entry ≢ Serves port) }
+{
+    match command {
+        Command::Serve(port) => Ok(port),
+        _ => Err(BadWords),
     }
 }
 
@@ -98,10 +137,73 @@ fn make(name: CommandName, pieces: Pieces<'_>) -> Result<Command<'_>, BadWords>
             Some(id) => Ok(Command::Show(id)),
             None => Err(BadWords),
         },
-        CommandName::List => match pieces.operand {
-            None => Ok(Command::List),
-            Some(_) => Err(BadWords),
+        CommandName::List => alone(pieces, Command::List),
+        CommandName::Report => alone(pieces, Command::Report),
+        CommandName::Export => alone(pieces, Command::Export),
+        CommandName::Archive => alone(pieces, Command::Archive),
+        CommandName::History => make_history(pieces),
+        CommandName::Import => make_import(pieces),
+        CommandName::Rehearse => match number_of(pieces) {
+            Some(number) => Ok(Command::Rehearse(number)),
+            None => Err(BadWords),
         },
+        CommandName::Serve => make_serve(pieces),
+    }
+}
+
+/// A command that has no operand.
+fn alone<'a>(pieces: Pieces<'a>, command: Command<'a>) -> Result<Command<'a>, BadWords>
+    ensures ok { IfOk result (λ made. (made ≡ command.entry) × (told_of pieces.entry).operand ≡ None) }
+    ensures err { OnErr result ((told_of pieces.entry).operand ≢ None) }
+{
+    match pieces.operand {
+        None => Ok(command),
+        Some(_) => Err(BadWords),
+    }
+}
+
+fn make_history(pieces: Pieces<'_>) -> Result<Command<'_>, BadWords>
+    ensures ok { IfOk result (λ command. IsMade names.History (told_of pieces.entry) (asked command)) }
+    ensures err { OnErr result ((other : Asked) → ¬ IsMade names.History (told_of pieces.entry) other) }
+{
+    let after = match read_after(pieces.after) {
+        Some(after) => after,
+        None => return Err(BadWords),
+    };
+    let limit = match read_limit(pieces.limit) {
+        Some(limit) => limit,
+        None => return Err(BadWords),
+    };
+    match pieces.operand {
+        None => Ok(Command::History(after, limit)),
+        Some(_) => Err(BadWords),
+    }
+}
+
+fn make_import(pieces: Pieces<'_>) -> Result<Command<'_>, BadWords>
+    ensures ok { IfOk result (λ command. IsMade names.Import (told_of pieces.entry) (asked command)) }
+    ensures err { OnErr result ((other : Asked) → ¬ IsMade names.Import (told_of pieces.entry) other) }
+{
+    match pieces.operand {
+        Some(name) if is_file_name(name) => Ok(Command::Import(name)),
+        _ => Err(BadWords),
+    }
+}
+
+fn make_serve(pieces: Pieces<'_>) -> Result<Command<'_>, BadWords>
+    ensures ok { IfOk result (λ command. IsMade names.Serve (told_of pieces.entry) (asked command)) }
+    ensures err { OnErr result ((other : Asked) → ¬ IsMade names.Serve (told_of pieces.entry) other) }
+{
+    if !asks_no_workers(pieces.workers) {
+        return Err(BadWords);
+    }
+    let port = match read_port(pieces.port) {
+        Some(port) => port,
+        None => return Err(BadWords),
+    };
+    match pieces.operand {
+        None => Ok(Command::Serve(port)),
+        Some(_) => Err(BadWords),
     }
 }
 
@@ -171,11 +273,19 @@ fn id_of(pieces: Pieces<'_>) -> Option<ItemId>
     ensures some { IfSome result (λ id. IsIdOf (told_of pieces.entry) id.0) }
     ensures none { IfNone result ((id : ℕ) → ¬ IsIdOf (told_of pieces.entry) id) }
 {
+    match number_of(pieces) {
+        Some(id) => Some(ItemId(id)),
+        None => None,
+    }
+}
+
+/// The number that the operand is.
+fn number_of(pieces: Pieces<'_>) -> Option<u32>
+    ensures some { IfSome result (λ number. IsIdOf (told_of pieces.entry) number) }
+    ensures none { IfNone result ((number : ℕ) → ¬ IsIdOf (told_of pieces.entry) number) }
+{
     match pieces.operand {
-        Some(digits) => match read_number(digits) {
-            Some(id) => Some(ItemId(id)),
-            None => None,
-        },
+        Some(digits) => read_number(digits),
         None => None,
     }
 }

@@ -6,9 +6,9 @@ mod pieces;
 mod table;
 mod values;
 
-pub use command::{BadWords, Command, Wish, read_command};
+pub use command::{BadWords, Command, Wish, read_command, read_serve};
 pub use table::CommandName;
-pub use values::{is_name, is_word};
+pub use values::{digest_of, is_file_name, is_name, is_word};
 
 #[cfg(test)]
 mod tests;

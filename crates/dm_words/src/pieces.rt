@@ -18,6 +18,10 @@ pub(crate) struct Pieces<'a> {
     pub name: Option<&'a [u8]>,
     pub sha256: Option<&'a [u8]>,
     pub slices: Option<&'a [u8]>,
+    pub after: Option<&'a [u8]>,
+    pub limit: Option<&'a [u8]>,
+    pub port: Option<&'a [u8]>,
+    pub workers: Option<&'a [u8]>,
     pub operand: Option<&'a [u8]>,
 }
 
@@ -36,11 +40,19 @@ pub(crate) fn read_pieces(name: CommandName, words: &[Text]) -> Option<Pieces<'_
     let wish = word_after(words, b"--name");
     let sha256 = word_after(words, b"--sha256");
     let slices = word_after(words, b"--slices");
+    let after = word_after(words, b"--after");
+    let limit = word_after(words, b"--limit");
+    let port = word_after(words, b"--port");
+    let workers = word_after(words, b"--workers");
     Some(Pieces {
         word,
         name: wish,
         sha256,
         slices,
+        after,
+        limit,
+        port,
+        workers,
         operand,
     })
 }

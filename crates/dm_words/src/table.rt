@@ -15,6 +15,13 @@ pub enum CommandName {
     Remove,
     Show,
     List,
+    Report,
+    Export,
+    Archive,
+    History,
+    Import,
+    Rehearse,
+    Serve,
 }
 
 impl CommandName {
@@ -42,6 +49,20 @@ impl CommandName {
             Some(CommandName::Show)
         } else if word.is(b"list") {
             Some(CommandName::List)
+        } else if word.is(b"report") {
+            Some(CommandName::Report)
+        } else if word.is(b"export") {
+            Some(CommandName::Export)
+        } else if word.is(b"archive") {
+            Some(CommandName::Archive)
+        } else if word.is(b"history") {
+            Some(CommandName::History)
+        } else if word.is(b"import") {
+            Some(CommandName::Import)
+        } else if word.is(b"rehearse") {
+            Some(CommandName::Rehearse)
+        } else if word.is(b"serve") {
+            Some(CommandName::Serve)
         } else {
             None
         }
@@ -60,6 +81,13 @@ impl CommandName {
             CommandName::Remove => false,
             CommandName::Show => false,
             CommandName::List => false,
+            CommandName::Report => false,
+            CommandName::Export => false,
+            CommandName::Archive => false,
+            CommandName::History => option.is(b"--after") || option.is(b"--limit"),
+            CommandName::Import => false,
+            CommandName::Rehearse => false,
+            CommandName::Serve => option.is(b"--port") || option.is(b"--workers"),
         }
     }
 }

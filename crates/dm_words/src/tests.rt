@@ -73,6 +73,21 @@ fn what_each_command_asks(rt: HostRuntime) -> Result<(), Fail> {
         ),
         (&[b"show", b"007"], Command::Show(ItemId(7))),
         (&[b"list"], Command::List),
+        (&[b"report"], Command::Report),
+        (&[b"export"], Command::Export),
+        (&[b"archive"], Command::Archive),
+        (&[b"history"], Command::History(0, 50)),
+        (
+            &[b"history", b"--limit", b"100", b"--after", b"7"],
+            Command::History(7, 100),
+        ),
+        (&[b"import", b"a.csv"], Command::Import(b"a.csv")),
+        (&[b"rehearse", b"0"], Command::Rehearse(0)),
+        (&[b"serve"], Command::Serve(8765)),
+        (
+            &[b"serve", b"--port", b"65535", b"--workers", b"0"],
+            Command::Serve(65535),
+        ),
     ];
     for (words, command) in rows {
         let words = texts(rt.alloc(), words)?;
@@ -173,6 +188,25 @@ fn words_that_are_no_command(rt: HostRuntime) -> Result<(), Fail> {
         &[b"show", b"-1"],
         &[b"show", b"4294967296"],
         &[b"show", b"00000000001"],
+        &[b"report", b"1"],
+        &[b"export", b"--limit", b"1"],
+        &[b"archive", b"1"],
+        &[b"history", b"1"],
+        &[b"history", b"--limit", b"0"],
+        &[b"history", b"--limit", b"101"],
+        &[b"history", b"--after", b"x"],
+        &[b"import"],
+        &[b"import", b"a/b"],
+        &[b"import", b"a\0b"],
+        &[b"import", b"."],
+        &[b"import", b".."],
+        &[b"import", b"\xff"],
+        &[b"rehearse"],
+        &[b"rehearse", b"4294967296"],
+        &[b"serve", b"1"],
+        &[b"serve", b"--port", b"0"],
+        &[b"serve", b"--port", b"65536"],
+        &[b"serve", b"--workers", b"1"],
     ];
     for words in refused {
         let words = texts(rt.alloc(), words)?;

@@ -3,7 +3,7 @@ ghost use Rattle.std.specs.Prelude.{◌≡◌, ◌↔◌, ℕ, List, Option, IfS
 ghost use Rattle.std.specs.List.{list_all};
 ghost use Rattle.std.specs.Option.{option_copied};
 ghost use Rattle.std.specs.Str.{IsUtf8};
-ghost use Rattle.dm_words.specs.Values.{IsDigest, IsDigestOf, IsName, IsNumber, IsSlices, IsSlicesOf, IsWord, is_word_byte};
+ghost use Rattle.dm_words.specs.Values.{AreDots, IsAfter, IsDigest, IsDigestOf, IsFileName, IsLimit, IsName, IsNumber, IsPort, IsSlices, IsUpTo, IsWord, IsWorkers, is_file_byte, is_word_byte};
 
 use hex::FromHex;
 
@@ -18,6 +18,12 @@ const MOST_DIGITS: usize = 10;
 
 /// The most slices that may be asked for.
 const MOST_SLICES: u32 = 16;
+
+/// The most rows of the history that are shown.
+const MOST_ROWS: u32 = 100;
+
+/// The greatest port.
+const MOST_OF_PORT: u32 = 65_535;
 
 /// Whether the user may call an item so.
 pub fn is_word(word: &[u8]) -> bool
@@ -89,7 +95,7 @@ pub(crate) fn read_digest(digits: Option<&[u8]>) -> Option<Option<[u8; 32]>>
 }
 
 /// The 32 bytes of 64 hexadecimal digits.
-fn digest_of(digits: &[u8]) -> Option<[u8; 32]>
+pub fn digest_of(digits: &[u8]) -> Option<[u8; 32]>
     ensures some { IfSome result (λ digest. IsDigest digits.now digest) }
     ensures none { IfNone result ((digest : List ℕ) → ¬ IsDigest digits.now digest) }
 {
@@ -117,17 +123,106 @@ pub(crate) fn read_slices(digits: Option<&[u8]>) -> Option<u32>
     ensures none { IfNone result ((slices : ℕ) → ¬ IsSlices (option_copied digits.entry) slices) }
 {
     match digits {
-        Some(digits) => slices_of(digits),
+        Some(digits) => read_up_to(digits, MOST_SLICES),
         None => Some(1),
     }
 }
 
-fn slices_of(digits: &[u8]) -> Option<u32>
-    ensures some { IfSome result (λ slices. IsSlicesOf digits.now slices) }
-    ensures none { IfNone result ((slices : ℕ) → ¬ IsSlicesOf digits.now slices) }
+/// The number of 1 to so many that the digits are.
+fn read_up_to(digits: &[u8], most: u32) -> Option<u32>
+    ensures some { IfSome result (λ number. IsUpTo most digits.now number) }
+    ensures none { IfNone result ((number : ℕ) → ¬ IsUpTo most digits.now number) }
 {
     match read_number(digits) {
-        Some(slices) if 1 <= slices && slices <= MOST_SLICES => Some(slices),
+        Some(number) if 1 <= number && number <= most => Some(number),
         _ => None,
     }
+}
+
+/// The id behind which rows are shown. `None` where the digits are no number.
+pub(crate) fn read_after(digits: Option<&[u8]>) -> Option<u32>
+    ensures some { IfSome result (λ after. IsAfter (option_copied digits.entry) after) }
+    ensures none { IfNone result ((after : ℕ) → ¬ IsAfter (option_copied digits.entry) after) }
+{
+    match digits {
+        Some(digits) => read_number(digits),
+        None => Some(0),
+    }
+}
+
+/// How many rows are shown at most. `None` where the digits are no such number.
+pub(crate) fn read_limit(digits: Option<&[u8]>) -> Option<u32>
+    ensures some { IfSome result (λ limit. IsLimit (option_copied digits.entry) limit) }
+    ensures none { IfNone result ((limit : ℕ) → ¬ IsLimit (option_copied digits.entry) limit) }
+{
+    match digits {
+        Some(digits) => read_up_to(digits, MOST_ROWS),
+        None => Some(50),
+    }
+}
+
+/// The port of the service. `None` where the digits are none.
+pub(crate) fn read_port(digits: Option<&[u8]>) -> Option<u16>
+    ensures some { IfSome result (λ port. IsPort (option_copied digits.entry) port) }
+    ensures none { IfNone result ((port : ℕ) → ¬ IsPort (option_copied digits.entry) port) }
+{
+    match digits {
+        Some(digits) => port_of(digits),
+        None => Some(8765),
+    }
+}
+
+fn port_of(digits: &[u8]) -> Option<u16>
+    ensures some { IfSome result (λ port. IsUpTo 65535 digits.now port) }
+    ensures none { IfNone result ((port : ℕ) → ¬ IsUpTo 65535 digits.now port) }
+{
+    match read_up_to(digits, MOST_OF_PORT) {
+        Some(port) => u16::try_from(port).ok(),
+        None => None,
+    }
+}
+
+/// Whether no worker is asked for. None is built yet.
+pub(crate) fn asks_no_workers(digits: Option<&[u8]>) -> bool
+    ensures { IsTrue result ↔ IsWorkers (option_copied digits.entry) }
+{
+    match digits {
+        Some(digits) => is_zero(digits),
+        None => true,
+    }
+}
+
+fn is_zero(digits: &[u8]) -> bool
+    ensures { IsTrue result ↔ IsNumber digits.now 0 }
+{
+    match read_number(digits) {
+        Some(number) => number == 0,
+        None => false,
+    }
+}
+
+/// Whether it is the name of a file in the folder of files.
+pub fn is_file_name(name: &[u8]) -> bool
+    ensures { IsTrue result ↔ IsFileName name.now }
+{
+    is_name(name) && has_file_bytes(name) && !is_dots(name)
+}
+
+/// Whether it is `.` or `..`, which are folders.
+fn is_dots(name: &[u8]) -> bool
+    ensures { IsTrue result ↔ AreDots name.now }
+{
+    matches!(name, [b'.'] | [b'.', b'.'])
+}
+
+fn has_file_bytes(name: &[u8]) -> bool
+    ensures { result ≡ list_all is_file_byte name.now }
+{
+    name.iter().all(|byte| is_file_byte(*byte))
+}
+
+fn is_file_byte(byte: u8) -> bool
+    ensures { result ≡ is_file_byte byte }
+{
+    !(byte == b'/' || byte == 0)
 }

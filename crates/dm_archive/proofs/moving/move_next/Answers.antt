@@ -13,7 +13,7 @@ returns-in-Ok-None-clause-keeps g c = keeps_same g.D.Disk.tells g.D.Disk.history
 
 pub returns-clause-answers : goal.returns-clause-answers
 returns-clause-answers g c =
-    let same : c.items-2.result.now ≡ c.args.desk.now.items.items = c.items-2.ensures ∙ ap (λ (v : Listing). v.items) c.items.ensures in
+    let same : c.items-2.result.now ≡ c.args.desk.now.items.items = c.items-2.ensures ∙ ap (λ (v : Listing). v.items) c.items.ensures.items in
     let found = found_some c.args.desk.now.items.items (subst (λ (items : List Item). IsSome (next_over items)) same c.in-Err.ensures.some) in
     record { item = found.item; is = found.is; does = (refl, λ knows. inl refl) }
 

@@ -59,5 +59,5 @@ returns-clause-goes g c scene begun kept =
     (λ (item : Item). SourceOf item (Ok source)) found in
     let is = subst (λ (item : Item). IsSourceOf item source) same found.is in
     kept_drives D.tells D.history (λ o. said_of (g.S.O.Origin.says o)) D.far D.faults N.tells scene c.args.pass.now old (N.closed c.args.net.now) (N.faults c.args.net.now) (N.origin_of c.args.net.now) c.args.at begun
-    (g.S.Desk.view c.run_kept.new.desk) (N.closed c.run_kept.new.net) (N.faults c.run_kept.new.net) c.args.slices source is c.run_kept.result
+    (g.S.Desk.view c.run_kept.new.desk) (N.closed c.run_kept.new.net) (N.faults c.run_kept.new.net) c.args.slices source is kept.few c.run_kept.result
     (c.run_kept.ensures.goes scene (record { live = begun.live c.args.slices; keyed = kept_keyed c.args.pass.now (begun_by scene) source is; still = λ t. begun.closed_is; origin = begun.origin; at_is = begun.at_is }))

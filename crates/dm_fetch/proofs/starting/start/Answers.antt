@@ -7,7 +7,7 @@ use Rattle.dm_policy.specs.declared.cause.Cause.TheVariants as causes
 use Rattle.dm_attempt.specs.Goes.{CallGoes}
 use Rattle.dm_fetch.specs.Starts.{short}
 use Rattle.dm_fetch.proofs.Begun.{kept_begun}
-use Rattle.dm_fetch.proofs.Starts.{at_own, begin_fails, begins_live, over_at_once}
+use Rattle.dm_fetch.proofs.Starts.{at_own, begin_fails, begins_few, begins_live, over_at_once}
 use Rattle.dm_fetch.proofs.starting.start.Goals as goal
 
 pub returns-in-Ok-Fresh-clause-leaves : goal.returns-in-Ok-Fresh-clause-leaves
@@ -43,15 +43,17 @@ returns-in-Ok-Continue-clause-leaves g c =
     let new = view c.begin.new.self in
     let found = rw c.in-Ok-Continue.field-0-is at c.in-Ok-Continue.ensures.answers in
     let call : CallGoes D.tells D.history (λ o. said_of (g.S.O.Origin.says o)) D.far D.faults IsPart old new = record { keeps = c.begin.ensures.keeps; near = c.begin.ensures.far; later = c.begin.ensures.cause.later; beside = λ t. besides_same IsPart (D.history old.disk) (D.history new.disk) (c.begin.ensures.beside t) } in
+    let live = begins_live D.tells D.history (λ o. said_of (g.S.O.Origin.says o)) D.far D.faults old new call
+    c.args.id c.args.by c.args.at found.item found.there c.in-Ok-Continue.pass found.is.1.pass_is c.begin.ensures.was found.is.0.may found.is.2 in
     record {
       item = found.item;
       there = found.there;
       is = record {
         pass_is = found.is.1.pass_is;
         kept = kept_begun D.tells D.history old c.begin.ensures.was found.item
-            (at_own D.tells D.history (λ o. said_of (g.S.O.Origin.says o)) D.far D.faults old new call c.args.id c.args.by c.args.at found.item found.there) c.args.by c.args.at found.is.0.may found.is.0.told;
-        live = begins_live D.tells D.history (λ o. said_of (g.S.O.Origin.says o)) D.far D.faults old new call
-            c.args.id c.args.by c.args.at found.item found.there c.in-Ok-Continue.pass found.is.1.pass_is c.begin.ensures.was found.is.0.may found.is.2;
+            (at_own D.tells D.history (λ o. said_of (g.S.O.Origin.says o)) D.far D.faults old new call c.args.id c.args.by c.args.at found.item found.there) c.args.by c.args.at found.is.0.may found.is.0.told
+            (begins_few D.tells D.history (λ o. said_of (g.S.O.Origin.says o)) D.far D.faults old new call c.args.id c.args.by c.args.at found.item found.there c.in-Ok-Continue.pass c.begin.ensures.kept live);
+        live = live;
       };
     }
 

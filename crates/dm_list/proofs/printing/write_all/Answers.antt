@@ -14,6 +14,7 @@ loop-rest-preserved g c =
       rest = c.split_at.ensures.back ∙ ap (drop c.in-Ok.count) was.rest ∙ drop-drop c.in-Ok.count was.done c.args.text.now;
       written = λ tells. wrote_more (S.written c.args.sink.now) c.args.text.now (S.written c.loop-rest.sink) (S.written c.write.new.self) c.loop-rest.rest.now was.done c.in-Ok.count was.rest (was.written tells) (c.in-Ok.ensures.written tells);
       later = λ kind. omega (arith, was.later kind, c.write.ensures.cause.later kind);
+      quiet = λ kind. c.in-Ok.ensures.quiet kind ∙ was.quiet kind;
     }
 
 pub returns-in-Err-clause-written : goal.returns-in-Err-clause-written

@@ -1,5 +1,6 @@
 use Rattle.std.proofs.Common.{◌≡◌, ℕ, ◌≤◌, ◌++◌, length, take, drop}
 use Rattle.dm_types.specs.Faults.{NoneFell}
+use Rattle.dm_does.specs.Printing.{SameCounts}
 use Rattle.dm_list.proofs.printing.write_all.Given as goal
 
 -- what was written so far is the front of the text, and the rest is what is left
@@ -12,6 +13,7 @@ invariant-loop-rest g l =
       rest : l.rest ≡ drop done l.text;
       written : S.tells → S.written l.sink ≡ S.written l.initial.sink ++ take done l.text;
       later : NoneFell (S.faults l.initial.sink) (S.faults l.sink);
+      quiet : SameCounts (S.faults l.initial.sink) (S.faults l.sink);
     }
 
 abbrev pub decreases-loop-rest : goal.decreases-loop-rest

@@ -1,13 +1,13 @@
 use Rattle.dm_store.specs.Origin.{said_of}
-use Rattle.dm_list.proofs.Going.{swept_broken, swept_goes, swept_still}
+use Rattle.dm_list.proofs.Going.{swept_broken, swept_goes, swept_went}
 use Rattle.dm_list.proofs.working.sweep.Goals as goal
 
-pub returns-clause-still : goal.returns-clause-still
-returns-clause-still g c =
-    swept_still g.D.Disk.tells g.D.Disk.history c.args.desk.now c.sweep-passed_over.new.self c.sweep-passed_over.result c.requires.desk c.sweep-passed_over.ensures.answers
+pub returns-clause-went : goal.returns-clause-went
+returns-clause-went g c =
+    swept_went g.D.Disk.tells g.D.Disk.history c.args.desk.now c.sweep-passed_over.new.self c.sweep-passed_over.result c.requires.desk c.sweep-passed_over.ensures.answers
 
-pub returns-clause-broken : goal.returns-clause-broken
-returns-clause-broken g c = swept_broken g.D.Disk.tells g.D.Disk.history c.args.desk.now c.sweep-passed_over.new.self c.sweep-passed_over.result c.sweep-passed_over.ensures.answers
+pub returns-clause-stays : goal.returns-clause-stays
+returns-clause-stays g c = swept_broken g.D.Disk.tells g.D.Disk.history c.args.desk.now c.sweep-passed_over.new.self c.sweep-passed_over.result c.sweep-passed_over.ensures.answers
 
 pub returns-clause-goes : goal.returns-clause-goes
 returns-clause-goes g c =

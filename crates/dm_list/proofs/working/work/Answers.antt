@@ -1,28 +1,36 @@
-use Rattle.std.proofs.Common.{◌∙◌, subst}
+use Rattle.std.proofs.Common.{sym, ◌∙◌, subst}
 use Rattle.dm_item.specs.Listing.{Listing}
 use Rattle.dm_report.specs.Said.{EndsAs}
-use Rattle.dm_store.specs.Origin.{said_of}
 use Rattle.dm_does.specs.Doing.{does}
 use Rattle.dm_does.specs.Saying.{said_by}
 use Rattle.dm_does.proofs.Decisions.{given_of}
-use Rattle.dm_list.proofs.Going.{goes_then}
+use Rattle.dm_list.proofs.Going.{decided_may, decided_origin}
 use Rattle.dm_list.proofs.working.work.Goals as goal
 
-pub returns-clause-worked : goal.returns-clause-worked
-returns-clause-worked g c = record {
-  course = c.decide-course.result;
-  between = c.decide-course.new.desk;
-  decides = c.decide-course.ensures.decides;
-  shows = c.decide-course.ensures.shows;
-  says = subst (λ (v : Listing). EndsAs (said_by v.items c.decide-course.result) c.say-ending.result) c.items.ensures c.say-ending.ensures.says;
+pub bring-onward-requires-clause-may : goal.bring-onward-requires-clause-may
+bring-onward-requires-clause-may g c = decided_may c.args.job c.args.at c.args.desk.now c.decide-decided.new.desk c.decide-decided.result c.requires.fits c.requires.whole c.decide-decided.ensures.decides
+
+pub bring-onward-requires-clause-origin : goal.bring-onward-requires-clause-origin
+bring-onward-requires-clause-origin g c =
+    c.requires.origin ∙ sym (decided_origin (does c.args.job (given_of c.args.desk.now c.args.at)) c.args.desk.now c.decide-decided.new.desk c.decide-decided.result c.decide-decided.ensures.decides)
+
+pub returns : goal.returns
+returns g c = record {
+  course = c.decide-decided.result;
+  decided = c.decide-decided.new.desk;
+  decides = c.decide-decided.ensures.decides;
+  desk = c.decide-decided.ensures.kept;
+  own = c.decide-decided.ensures.goes;
+  shows = c.decide-decided.ensures.shows;
+  onward = c.bring-onward.result;
+  between = c.bring-onward.new.desk;
+  brings = c.bring-onward.ensures.brings;
+  net_later = c.bring-onward.ensures.later;
+  unfailed = c.items.ensures.kept.failed;
+  says_is = subst (λ (v : Listing). EndsAs (said_by v.items c.bring-onward.result) c.say-ending.result) c.items.ensures.items c.say-ending.ensures.says;
   fails = c.say-ending.ensures.fails;
-  still = c.sweep_if.ensures.still;
-  earlier = c.decide-course.ensures.goes.later;
-  later = c.sweep_if.ensures.goes.later;
+  went = c.sweep_if.ensures.went;
+  stays = c.sweep_if.ensures.stays;
+  behind = c.sweep_if.ensures.goes;
   swept = λ is. c.sweep_if.ensures.swept (c.sweeps-sweeps.ensures ∙ is);
 }
-
-pub returns-clause-goes : goal.returns-clause-goes
-returns-clause-goes g c =
-    goes_then g.D.Disk.tells g.D.Disk.history g.D.Disk.faults g.D.Disk.far (λ o. said_of (g.O.Origin.says o)) c.args.desk.now c.decide-course.new.desk c.sweep_if.new.desk c.decide-course.ensures.goes c.sweep_if.ensures.goes c.sweep_if.ensures.still
-    (does c.args.job (given_of c.args.desk.now c.args.at)) c.decide-course.result c.decide-course.ensures.decides c.sweep_if.ensures.broken

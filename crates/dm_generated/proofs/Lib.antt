@@ -1,0 +1,6 @@
+pub mod Bytes
+pub mod Digits
+pub mod Heads
+pub mod Printed
+pub mod Requests
+pub mod Fairness

@@ -1,0 +1,10 @@
+pub mod Written
+pub mod Moved
+pub mod Turned
+pub mod Left
+pub mod Closed
+pub mod Whole
+pub mod Answered
+pub mod Chosen
+pub mod Promised
+pub mod Asking

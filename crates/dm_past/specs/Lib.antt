@@ -1,0 +1,13 @@
+pub mod Past
+pub mod Tasks
+pub mod Saying
+pub mod Coming
+pub mod Answering
+pub mod Showing
+pub mod Explaining
+pub mod Working
+pub mod Running
+pub mod ByRows
+pub mod Listed
+pub mod Words
+pub mod All

@@ -1,0 +1,5 @@
+pub mod Turning
+pub mod Looping
+pub mod Serving
+pub mod Refusing
+pub mod Explaining

@@ -1,0 +1,83 @@
+-- What a session of the service made of the list, and how it ended.
+use Rattle.std.specs.Prelude.{◌≡◌, ◌⊎◌, ℕ, ◌≤◌, Bool, true, false, List, [], ◌++◌, length, Result}
+use Rattle.dm_types.specs.Limits.{most_items}
+use Rattle.dm_types.specs.declared.item.Item.{Item}
+use Rattle.dm_types.specs.declared.kinds.DiskKind.{DiskKind}
+use Rattle.dm_types.specs.declared.kinds.DiskKind.TheVariants.{Failed}
+use Rattle.dm_item.specs.Lawful.{History, IsLawful, IsOf}
+use Rattle.dm_kept.specs.Room.{IsTaken}
+use Rattle.dm_store.specs.View.{View}
+use Rattle.dm_report.specs.Said.{Said, only}
+use Rattle.dm_report.specs.declared.verdict.Verdict.TheVariants as verdicts
+use Rattle.dm_answers.specs.Opening.{IsTried}
+use Rattle.dm_answers.specs.Shut.{ShutAnswers}
+use Rattle.dm_answers.specs.declared.fault.DeskFault.{DeskFault}
+use Rattle.dm_conns.specs.Conn.{Over}
+use Rattle.dm_does.specs.Answering.{SaysFault, SaysUnread}
+use Rattle.dm_does.specs.Log.{ArePlain, Log, Run, Untouched, Unread, Unopened, Opened, tried_of}
+use Rattle.dm_does.specs.Session.{log_of}
+use Rattle.dm_does.specs.World.{World}
+use Rattle.dm_works.specs.Answering.{AnswersOn}
+use Rattle.dm_session.specs.Turning.{AreServed, EndsBy, Turn}
+use Rattle.dm_session.specs.declared.turning.Closed.{Closed}
+use Rattle.dm_session.specs.declared.turning.Closed.TheVariants as closes
+
+-- a list that is broken at the end is told
+abbrev pub by_broken : Bool → Said
+by_broken true = only (verdicts.DiskFailed Failed)
+by_broken false = only verdicts.Done
+
+-- What is said behind the last connection: an accept that failed is told before a list that is broken. Nothing goes to standard output.
+abbrev pub said_at_end : Closed → Bool → Said
+said_at_end closes.AcceptFailed broken = only verdicts.NotAccepted
+said_at_end closes.Full broken = by_broken broken
+said_at_end closes.Stopped broken = by_broken broken
+
+-- what went over the connections that were handed back, and how many these are
+pub record Line : Type 0 where
+  pub over : List Over
+  pub count : ℕ
+
+-- The list was opened. The connections were served from it one after another, each by what it asks of the list as the ones before it left it; and then all that ran was interrupted.
+pub record ServesList {D O : Type 0} (tells conns_tell accept_failed : Type 0) (counts : D → DiskKind → ℕ) (origin : O) (at : ℕ) (before after : World) (line line' : Line) (requests : ℕ) (log : Log) (said : Said) : Type 0 where
+  -- all that was tried is lawful behind what was found, the opening did what openings do, and no later entry opens the list again
+  pub taken : IsTaken most_items log.found
+  pub lawful : IsLawful (log.found ++ tried_of log)
+  pub tried : IsTried tells before.disk after.disk at log.found log.opening []
+  pub once : ArePlain (log.more ++ log.failed)
+  -- the list as it was opened, behind the last connection, and at the end
+  pub opened : View D O
+  pub left : View D O
+  pub ended : View D O
+  pub origin_is : opened.origin ≡ origin
+  pub opened_is : IsOf (log.found ++ log.opening) opened.items
+  pub log_is : log ≡ log_of log.found opened ended
+  pub turns : List Turn
+  pub served : AreServed conns_tell (AnswersOn counts) opened left line.over line'.over line.count line'.count turns
+  pub closed : Closed
+  pub ends : EndsBy requests accept_failed turns closed
+  pub shut : Result (Unit {0}) DeskFault
+  pub shuts : ShutAnswers left ended shut
+  pub said_is : said ≡ said_at_end closed ended.broken
+
+-- no journal was read
+pub record ServesUnread (before after : World) (line line' : Line) (said : Said) : Type 0 where
+  pub says : SaysUnread before after said
+  pub none : line' ≡ line
+
+-- The opening was refused behind what it read. What it tried is lawful there: these entries were recorded, then one failed at most, and the rest wasn't tried.
+pub record ServesUnopened (tells : Type 0) (at : ℕ) (before after : World) (line line' : Line) (found recorded failed rest : History) (said : Said) : Type 0 where
+  pub says : SaysFault before after said
+  pub none : line' ≡ line
+  pub taken : IsTaken most_items found
+  pub lawful : IsLawful (found ++ (recorded ++ (failed ++ rest)))
+  pub one : length failed ≤ 1
+  pub left : List Item
+  pub tried : IsTried tells before.disk after.disk at found (recorded ++ (failed ++ rest)) left
+
+-- by how far it came
+abbrev pub ServesSo : {D O : Type 0} → Type 0 → Type 0 → Type 0 → (D → DiskKind → ℕ) → O → ℕ → World → World → Line → Line → ℕ → Said → Run → Type 0
+ServesSo tells conns_tell accept_failed counts origin at before after line line' requests said Untouched = ⊥
+ServesSo tells conns_tell accept_failed counts origin at before after line line' requests said Unread = ServesUnread before after line line' said
+ServesSo tells conns_tell accept_failed counts origin at before after line line' requests said (Unopened found recorded failed rest) = ServesUnopened tells at before after line line' found recorded failed rest said
+ServesSo tells conns_tell accept_failed counts origin at before after line line' requests said (Opened log) = ServesList tells conns_tell accept_failed counts origin at before after line line' requests log said

@@ -1,0 +1,5 @@
+pub mod Stepping
+pub mod Calling
+mod Settling
+mod Pausing
+mod Replying

@@ -1,0 +1,4 @@
+pub mod Moving
+pub mod Courses
+pub mod Deciding
+pub mod Answering
