@@ -68,4 +68,116 @@ if ! is_built; then
     exec 9>&-
 fi
 [ "${DM_BUILD:-}" = only ] && exit 0
-exec "$program" "$@"
+
+# Each part that stands: a number of its file's own, its length, and how many blocks of 512 bytes it has.
+parts() {
+    find dm-files -maxdepth 1 -type f -name '*.crdownload' -printf '%i %s %b\n' 2>/dev/null
+}
+
+# Looks at the parts: `came` is how many bytes those have that changed since the start, and `speed` how
+# many more a second than at the last look. Slices leave holes in a part, so its length alone isn't
+# what came. Once the parts are gone, `came` stays as it was.
+look() {
+    local file length blocks sum=0 more=0 now=${EPOCHREALTIME/[.,]/} changed=
+    while read -r file length blocks; do
+        if [ "${stood[$file]:-}" != "$length $blocks" ]; then
+            length=$((length < blocks * 512 + 4096 ? length : blocks * 512 + 4096))
+            ((more += length > ${seen[$file]:-0} ? length - ${seen[$file]:-0} : 0))
+            ((sum += length))
+            seen[$file]=$length changed=yes
+        fi
+    done < <(parts)
+    [ -n "$changed" ] && came=$sum
+    speed=$((more * 1000000 / (now - looked + 1))) looked=$now
+}
+
+# A number of bytes as it is read: 999 bytes, 12.3 MB.
+amount() {
+    local bytes=$1 unit
+    if ((bytes < 1000)); then echo "$bytes bytes"; return; fi
+    for unit in kB MB GB TB; do
+        if ((bytes < 1000000)); then echo "$((bytes / 1000)).$((bytes % 1000 / 100)) $unit"; return; fi
+        bytes=$((bytes / 1000))
+    done
+}
+
+# Whether this is what the terminal's keys go to; it then doesn't write over what somebody types.
+in_front() {
+    local about
+    read -r about </proc/self/stat
+    set -- ${about##*) }
+    [ "$6" = -1 ] || [ "$3" = "$6" ]
+}
+
+hide() {
+    [ -n "$line" ] && in_front && printf '\r\033[K' >&2
+    line=
+}
+
+# Hands the program's texts on. While none comes it writes one line over, each second, with what has
+# come; $1 is what stood at the start. It ends where the texts do, also where all else is killed.
+show() {
+    trap '' HUP INT QUIT TERM
+    local LC_ALL=C text status line='' half='' came=0 speed looked=${EPOCHREALTIME/[.,]/}
+    local file length blocks
+    local -A stood seen
+    while read -r file length blocks; do
+        [ -n "$file" ] || continue
+        stood[$file]="$length $blocks"
+        seen[$file]=$((length < blocks * 512 + 4096 ? length : blocks * 512 + 4096))
+    done <<<"$1"
+    while :; do
+        IFS= read -r -t 1 text
+        status=$?
+        [ "$status" = 0 ] && text+=$'\n'
+        if [ -n "$text" ]; then
+            hide
+            printf '%s' "$text" >&2
+            half=${text%%*$'\n'}
+        elif [ "$status" -gt 128 ] && [ -z "$half" ] && in_front; then
+            look
+            line="dm: $(amount "$came"), $(amount "$speed")/s"
+            printf '\r\033[K%s' "$line" >&2
+        fi
+        [ "$status" = 0 ] || [ "$status" -gt 128 ] || break
+    done
+    hide
+}
+
+# Only for somebody who waits at a terminal for what comes.
+case ${1-} in get | resume) waits=yes ;; *) waits= ;; esac
+[ -n "$waits" ] && [ -t 2 ] && [ -e /dev/fd/0 ] && [ -e /dev/fd/1 ] && command -v setpriv >/dev/null ||
+    exec "$program" "$@"
+
+# The texts go through `show`, so that none of them meets the line: also those on standard output
+# where it is the same terminal. The program ends with this script: by each signal that this one is
+# told, and where this one is killed.
+before=$(parts)
+coproc show "$before"
+exec 8<&"${COPROC[0]}" 9>&"${COPROC[1]}" {COPROC[0]}<&- {COPROC[1]}>&-
+child='' told=''
+hand_on() {
+    told=$1
+    [ -z "$child" ] || kill -s "$1" "$child"
+}
+for signal in HUP INT QUIT USR1 USR2 ALRM TERM; do trap "hand_on $signal" "$signal"; done
+out=1
+[ /dev/fd/1 -ef /dev/fd/2 ] && out=9
+(trap - INT QUIT; exec setpriv --pdeathsig KILL -- "$program" "$@") <&0 >&"$out" 2>&9 8<&- 9>&- &
+child=$!
+exec 9>&- 2>/dev/null
+[ -z "$told" ] || kill -s "$told" "$child"
+# `show` writes nothing here, and ends once the program has. Here and not in a `wait`, since one that
+# a signal breaks off may lose the status.
+while read -r -u 8; [ $? != 1 ]; do :; done
+trap '' HUP INT QUIT USR1 USR2 ALRM TERM
+wait "$child"
+status=$?
+# Where a signal ended the program it ends this script too. bash itself takes no QUIT.
+if [ "$status" -gt 128 ]; then
+    ulimit -c 0
+    trap - HUP INT QUIT USR1 USR2 ALRM TERM
+    type -P kill >/dev/null && exec kill "-$((status - 128))" $$
+    kill "-$((status - 128))" $$
+fi
+exit "$status"
