@@ -32,7 +32,7 @@ pub fn confirm<D: Disk>(
     ensures cause { HasCause kind_is (D.faults disk.old) (D.faults disk.new) result }
     ensures far { D.far disk.new ≡ D.far disk.old }
 {
-    let mut buffer = [0; 4096];
+    let mut buffer = [0; 65_536];
     match digest(disk, part, total, &mut buffer) {
         Ok(have) => Ok(compare(have, stated)),
         Err(fault) => ended(fault),

@@ -35,7 +35,7 @@ fn is_listed(names: &NameList, place: &Place) -> bool
     names.items().iter().any(|name| name.same(&place.name))
 }
 
-/// Weighs what stands at a place. It only reads, in pieces of 4,096 bytes.
+/// Weighs what stands at a place. It only reads, in pieces of 65,536 bytes.
 fn weigh<D: Disk>(disk: &mut D, place: &Place, total: u64) -> Result<Weighed, DiskKind>
     ensures weighs { D.tells → IfOk result (Weighs (bytes_at (now (D.history disk.old)) place.now) total) }
     ensures still { D.history disk.new ≡ D.history disk.old }
@@ -47,7 +47,7 @@ fn weigh<D: Disk>(disk: &mut D, place: &Place, total: u64) -> Result<Weighed, Di
         Ok(None) => return Ok(Weighed::Short),
         Err(fault) => return Err(fault.0),
     }
-    let mut buffer = [0u8; 4096];
+    let mut buffer = [0u8; 65_536];
     match digest(disk, place, total, &mut buffer) {
         Ok(sum) => Ok(Weighed::Whole(sum)),
         Err(PartFault::Short(_)) => Ok(Weighed::Short),
