@@ -126,15 +126,52 @@ fn ready_anew<D: Disk, O: Origin>(
     ensures size { IfOk result (λ both. FitsCell both.1.body) }
     ensures life { IfOk result (λ both. both.1.life ≡ life_at pass.id pass.epoch no_bytes) }
 {
+    let beginning = ready_empty(store, pass, by, at)?;
+    match ready_restart(store, pass, because) {
+        Ok(readied) => Ok((readied, beginning)),
+        Err(NoMemory) => Err(NoMemory),
+    }
+}
+
+/// All memory of an attempt that begins with nothing saved. It changes nothing.
+fn ready_empty<D: Disk, O: Origin>(
+    store: &mut Store<D, O>,
+    pass: Pass,
+    by: By,
+    at: u64,
+) -> Result<Beginning, NoMemory>
+    requires store { IsStore D.tells D.history store.old }
+    ensures store { IsStore D.tells D.history store.new }
+    ensures same { view_of store.new ≡ view_of store.old }
+    ensures room { OnOk result (HasRoomOf 5 store.new) }
+    ensures place { OnOk result (length store.new.lives.items < vec_capacity store.new.lives) }
+    ensures is { IfOk result (λ beginning. IsEntry (began_by pass by at)) }
+    ensures body { IfOk result (λ beginning. beginning.body ≡ spelling_of (began_by pass by at)) }
+    ensures size { IfOk result (λ beginning. FitsCell beginning.body) }
+    ensures life { IfOk result (λ beginning. beginning.life ≡ life_at pass.id pass.epoch no_bytes) }
+{
     let body = ready_body(store, pass, by, at)?;
-    let life = empty_life(store.alloc, pass.id, pass.epoch)?;
+    match empty_life(store.alloc, pass.id, pass.epoch) {
+        Ok(life) => Ok(Beginning { body, life }),
+        Err(NoMemory) => Err(NoMemory),
+    }
+}
+
+/// All memory of the entry by which a content is brought anew.
+fn ready_restart<D: Disk, O: Origin>(
+    store: &Store<D, O>,
+    pass: Pass,
+    because: u8,
+) -> Result<Readied, NoMemory>
+    requires { IsRule because }
+    ensures { IfOk result (IsReadied store.now.items (restart_by pass because)) }
+{
     let entry = Entry::Restarted {
         id: pass.id,
         epoch: pass.epoch,
         because,
     };
-    let readied = ready(store, &entry)?;
-    Ok((readied, Beginning { body, life }))
+    ready(store, &entry)
 }
 
 /// All memory of an attempt that begins in the item's epoch. It changes nothing.

@@ -1,13 +1,17 @@
-ghost use Rattle.std.specs.Prelude.{◌≡◌, false, Ok, IfOk, OnOk};
+ghost use Rattle.std.specs.Prelude.{◌≡◌, false, None, Ok, IfOk, IsTrue, OnOk};
 ghost use Rattle.dm_types.specs.Faults.{HasCause};
 ghost use Rattle.dm_types.specs.Name.{IsPart};
 ghost use Rattle.dm_disk_model.specs.Beside.{Besides};
+ghost use Rattle.dm_disk_model.specs.Moments.{KeepsFiles};
+ghost use Rattle.dm_item.specs.Listing.{Admits, applied};
 ghost use Rattle.dm_record.specs.Limits.{IsSpellable};
-ghost use Rattle.dm_store.specs.Keeps.{Keeps, StaysNear};
+ghost use Rattle.dm_store.specs.Becomes.{RecordMakes, kind_is};
+ghost use Rattle.dm_store.specs.Keeps.{Keeps, RecordGoes, StandBehind, StaysNear};
+ghost use Rattle.dm_store.specs.Lives.{AreAfter, IsLifeFor, is_plain};
 ghost use Rattle.dm_store.specs.Origin.{said_of};
 ghost use Rattle.dm_store.specs.Readied.{IsReadied};
 ghost use Rattle.dm_store.specs.Saving.{SaveMakes, save_kind};
-ghost use Rattle.dm_store.specs.Store.{HasRoomOf, IsStore, view_of};
+ghost use Rattle.dm_store.specs.Store.{HasRoomBehind, HasRoomOf, IsStore, view_of};
 ghost use Rattle.dm_answers.specs.declared.answer.Named.TheVariants as named;
 ghost use Rattle.dm_answers.specs.Describe.{DescribeAnswers, IsSilent, IsTelling, described_by};
 ghost use Rattle.dm_answers.specs.Faults.{desk_kind};
@@ -27,7 +31,7 @@ use dm_policy::{Cause, reason_of};
 use dm_store::{
     Pass, Readied, SaveFault, Store, interrupt, life_of, live_at, make_room, ready, record,
 };
-use dm_types::{Entry, ItemId, NoMemory, Reason, Text};
+use dm_types::{DiskKind, Entry, ItemId, NoMemory, Reason, Text, let_go};
 
 /// Takes what the first reply told: the name, the total, the key. The part is made.
 pub fn describe<D: Disk, O: Origin>(
@@ -181,6 +185,17 @@ fn ready_described<D: Disk, O: Origin>(
     ensures readied { IfOk result (λ both. IsReadied store.new.items both.0 both.1) }
     ensures room { OnOk result (HasRoomOf 1 store.new) }
 {
+    let entry = described(pass, told, name);
+    match ready_roomy(store, &entry) {
+        Ok(readied) => Ok((entry, readied)),
+        Err(NoMemory) => Err(NoMemory),
+    }
+}
+
+/// The entry of what was told.
+fn described(pass: &Pass, told: Told, name: Text) -> Entry
+    ensures { result ≡ described_by pass.now told name }
+{
     let Told {
         key,
         last_address,
@@ -188,17 +203,30 @@ fn ready_described<D: Disk, O: Origin>(
         wish: _,
         modified,
     } = told;
-    let entry = Entry::Described {
+    Entry::Described {
         id: pass.id,
         key,
         last_address,
         total,
         name,
         modified,
-    };
+    }
+}
+
+/// All memory of an entry, and room for it in the list. It changes nothing else.
+fn ready_roomy<D: Disk, O: Origin>(
+    store: &mut Store<D, O>,
+    entry: &Entry,
+) -> Result<Readied, NoMemory>
+    requires store { IsStore D.tells D.history store.old }
+    requires spelled { IsSpellable entry.now }
+    ensures store { IsStore D.tells D.history store.new }
+    ensures same { view_of store.new ≡ view_of store.old }
+    ensures readied { IfOk result (IsReadied store.new.items entry.now) }
+    ensures room { OnOk result (HasRoomOf 1 store.new) }
+{
     make_room(store, 1)?;
-    let readied = ready(store, &entry)?;
-    Ok((entry, readied))
+    ready(store, entry)
 }
 
 /// Makes the part of the attempt anew, and then records what was told. Where its part fails the item is
@@ -222,18 +250,47 @@ fn make_described<D: Disk, O: Origin>(
     ensures cause { HasCause save_kind (D.faults store.old.disk) (D.faults store.new.disk) result }
     ensures far { StaysNear (D.far store.old.disk) (D.far store.new.disk) (view_of store.old) (view_of store.new) }
 {
-    let Readied { body, item } = readied;
     let Some(life) = life_of(&store.lives, id) else {
         unreachable!();
     };
     match renew(&mut store.disk, &life.part) {
-        Ok(()) => match record(store, entry, body.bytes(), item, None) {
+        Ok(()) => match record_described(store, entry, readied) {
             Ok(()) => Ok(()),
             Err(kind) => Err(SaveFault::Journal(kind)),
         },
-        Err(fault) => match interrupt(store, id, reason_of(&Cause::File(fault.0))) {
-            Ok(()) => Err(SaveFault::File(fault.0)),
-            Err(kind) => Err(SaveFault::Journal(kind)),
-        },
+        Err(fault) => {
+            let_go(entry);
+            let_go(readied);
+            match interrupt(store, id, reason_of(&Cause::File(fault.0))) {
+                Ok(()) => Err(SaveFault::File(fault.0)),
+                Err(kind) => Err(SaveFault::Journal(kind)),
+            }
+        }
     }
+}
+
+/// Records what was told. It takes no memory.
+fn record_described<D: Disk, O: Origin>(
+    store: &mut Store<D, O>,
+    entry: Entry,
+    readied: Readied,
+) -> Result<(), DiskKind>
+    requires store { IsStore D.tells D.history store.old }
+    requires whole { store.old.broken ≡ false }
+    requires plain { IsTrue (is_plain entry) }
+    requires taken { Admits store.old.items entry }
+    requires readied { IsReadied store.old.items entry readied }
+    requires life { IsLifeFor entry (applied entry store.old.items) None }
+    requires stand { D.tells → StandBehind D.history (view_of store.old) entry }
+    requires lives { AreAfter entry store.old.items store.old.lives.items }
+    requires room { HasRoomBehind 0 entry store.old }
+    ensures store { IsStore D.tells D.history store.new }
+    ensures goes { RecordGoes D.tells D.history (λ o. said_of (O.says o)) (view_of store.old) (view_of store.new) entry }
+    ensures makes { RecordMakes (view_of store.old) (view_of store.new) entry result }
+    ensures beside { D.tells → KeepsFiles (D.history store.old.disk) (D.history store.new.disk) }
+    ensures cause { HasCause kind_is (D.faults store.old.disk) (D.faults store.new.disk) result }
+    ensures far { StaysNear (D.far store.old.disk) (D.far store.new.disk) (view_of store.old) (view_of store.new) }
+{
+    let Readied { body, item } = readied;
+    record(store, entry, body.bytes(), item, None)
 }

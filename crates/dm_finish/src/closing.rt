@@ -20,7 +20,7 @@ use dm_disk_model::Disk;
 use dm_edge::Origin;
 use dm_policy::{Cause, reason_of};
 use dm_store::{Store, interrupt};
-use dm_types::{ItemId, Reason};
+use dm_types::{ItemId, Reason, let_go};
 
 /// Ends an item whose content is saved: takes the sum of its part, and gives its file the name or
 /// interrupts it. It takes no memory.
@@ -45,27 +45,22 @@ pub fn close<D: Disk, O: Origin>(
 {
     match confirm(&mut store.disk, &naming.part, total, stated) {
         Ok(Confirmed::Sum(digest)) => complete(store, id, total, naming, digest, at),
-        Ok(Confirmed::Other { have, wanted }) => stop(
-            store,
-            id,
-            Reason::FileHashMismatch,
-            Ok(Finished::Mismatch { have, wanted }),
-        ),
-        Ok(Confirmed::Short(have)) => stop(
-            store,
-            id,
-            Reason::FileTooShort,
-            Ok(Finished::Short {
-                have,
-                wanted: total,
-            }),
-        ),
-        Err(kind) => stop(
-            store,
-            id,
-            reason_of(&Cause::File(kind)),
-            Err(DeskFault::File(kind)),
-        ),
+        Ok(Confirmed::Other { have, wanted }) => {
+            let_go(naming);
+            let answer = Ok(Finished::Mismatch { have, wanted });
+            stop(store, id, Reason::FileHashMismatch, answer)
+        }
+        Ok(Confirmed::Short(have)) => {
+            let_go(naming);
+            let wanted = total;
+            let answer = Ok(Finished::Short { have, wanted });
+            stop(store, id, Reason::FileTooShort, answer)
+        }
+        Err(kind) => {
+            let_go(naming);
+            let answer = Err(DeskFault::File(kind));
+            stop(store, id, reason_of(&Cause::File(kind)), answer)
+        }
     }
 }
 

@@ -1,11 +1,13 @@
 ghost use Rattle.std.specs.Prelude.{◌≡◌, false, IfOk, IfSome, IsSome, IsSomeAnd, Ok, OnOk};
 ghost use Rattle.dm_types.specs.Faults.{HasCause};
+ghost use Rattle.dm_types.specs.declared.entry.Entry.TheVariants as entries;
 ghost use Rattle.dm_disk_model.specs.Beside.{Besides};
 ghost use Rattle.dm_item.specs.Listing.{item_in};
 ghost use Rattle.dm_part.specs.Laws.{files_place};
 ghost use Rattle.dm_store.specs.Keeps.{Keeps, StaysNear};
-ghost use Rattle.dm_store.specs.Lives.{IsLifeOf};
+ghost use Rattle.dm_store.specs.Lives.{IsLifeOf, part_place};
 ghost use Rattle.dm_store.specs.Origin.{said_of};
+ghost use Rattle.dm_store.specs.Readied.{IsReadied};
 ghost use Rattle.dm_store.specs.Store.{HasRoomOf, IsStore, view_of};
 ghost use Rattle.dm_answers.specs.declared.answer.Finished.TheVariants as finished;
 ghost use Rattle.dm_answers.specs.Faults.{desk_kind};
@@ -140,21 +142,54 @@ fn prepare_ending<D: Disk, O: Origin>(
 {
     make_room(store, 1)?;
     let saving = prepare_saving(store, id)?;
-    let readied = ready(store, &Entry::Finishing { id, total })?;
     let Some(item) = store.items.get(id) else {
         unreachable!();
     };
-    let part = place_of(store.alloc, id, item.epoch)?;
-    let target = target_of(store.alloc, item)?;
-    Ok(Ending {
-        saving,
-        naming: Naming {
+    let stated = item.digest;
+    match prepare_naming(store, id, total, item) {
+        Ok(naming) => Ok(Ending {
+            saving,
+            naming,
+            stated,
+        }),
+        Err(NoMemory) => Err(NoMemory),
+    }
+}
+
+/// Takes all memory of the naming of an item's file.
+fn prepare_naming<D: Disk, O: Origin>(
+    store: &Store<D, O>,
+    id: ItemId,
+    total: u64,
+    item: &Item,
+) -> Result<Naming, NoMemory>
+    requires { IsSome item.now.name }
+    ensures readied { IfOk result (λ naming. IsReadied store.now.items (entries.Finishing id total) naming.readied) }
+    ensures part { IfOk result (λ naming. naming.part ≡ part_place id.0 item.now.epoch.0) }
+    ensures target { IfOk result (λ naming. IfSome item.now.name (λ name. naming.target ≡ files_place name)) }
+{
+    let (part, target) = places_of(store.alloc, id, item)?;
+    match ready(store, &Entry::Finishing { id, total }) {
+        Ok(readied) => Ok(Naming {
             readied,
             part,
             target,
-        },
-        stated: item.digest,
-    })
+        }),
+        Err(NoMemory) => Err(NoMemory),
+    }
+}
+
+/// Where the content of an item lies, and where its file gets its name.
+fn places_of(alloc: Global, id: ItemId, item: &Item) -> Result<(Place, Place), NoMemory>
+    requires { IsSome item.now.name }
+    ensures part { IfOk result (λ places. places.0 ≡ part_place id.0 item.now.epoch.0) }
+    ensures target { IfOk result (λ places. IfSome item.now.name (λ name. places.1 ≡ files_place name)) }
+{
+    let part = place_of(alloc, id, item.epoch)?;
+    match target_of(alloc, item) {
+        Ok(target) => Ok((part, target)),
+        Err(NoMemory) => Err(NoMemory),
+    }
 }
 
 /// Where the file of an item gets its name.

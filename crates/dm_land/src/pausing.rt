@@ -21,7 +21,7 @@ use dm_answers::DeskFault;
 use dm_disk_model::Disk;
 use dm_edge::Origin;
 use dm_store::{Readied, Store, make_room, ready, record};
-use dm_types::{DiskKind, Entry, ItemId, NoMemory, Phase};
+use dm_types::{DiskKind, Entry, ItemId, NoMemory, Phase, let_go};
 
 /// Pauses an item; what was landed is saved first.
 pub fn pause<D: Disk, O: Origin>(store: &mut Store<D, O>, id: ItemId) -> Result<(), DeskFault>
@@ -62,13 +62,29 @@ fn pause_item<D: Disk, O: Origin>(store: &mut Store<D, O>, id: ItemId) -> Result
     ensures cause { HasCause desk_kind (D.faults store.old.disk) (D.faults store.new.disk) result }
     ensures far { StaysNear (D.far store.old.disk) (D.far store.new.disk) (view_of store.old) (view_of store.new) }
 {
-    let prepared = match prepare_saving(store, id) {
-        Ok(prepared) => prepared,
-        Err(NoMemory) => return Err(DeskFault::NoMemory),
-    };
-    match prepare_pausing(store, id) {
-        Ok(readied) => save_and_pause(store, id, prepared, readied),
+    match prepare_both(store, id) {
+        Ok((prepared, readied)) => save_and_pause(store, id, prepared, readied),
         Err(NoMemory) => Err(DeskFault::NoMemory),
+    }
+}
+
+/// Takes all memory of saving what was landed and of pausing then.
+fn prepare_both<D: Disk, O: Origin>(
+    store: &mut Store<D, O>,
+    id: ItemId,
+) -> Result<(Option<Prepared>, Readied), NoMemory>
+    requires store { IsStore D.tells D.history store.old }
+    requires whole { store.old.broken ≡ false }
+    ensures store { IsStore D.tells D.history store.new }
+    ensures same { view_of store.new ≡ view_of store.old }
+    ensures prepared { IfOk result (λ both. PreparedOf (view_of store.new) id both.0) }
+    ensures readied { IfOk result (λ both. IsReadied store.new.items (entries.Paused id) both.1) }
+    ensures room { OnOk result (HasRoomOf 2 store.new) }
+{
+    let readied = prepare_pausing(store, id)?;
+    match prepare_saving(store, id) {
+        Ok(prepared) => Ok((prepared, readied)),
+        Err(NoMemory) => Err(NoMemory),
     }
 }
 
@@ -84,7 +100,17 @@ fn prepare_pausing<D: Disk, O: Origin>(
     ensures room { OnOk result (HasRoomOf 2 store.new) }
 {
     make_room(store, 2)?;
-    ready(store, &Entry::Paused { id })
+    ready_paused(store, id)
+}
+
+/// Takes the memory of the entry by which an item is paused.
+fn ready_paused<D: Disk, O: Origin>(store: &Store<D, O>, id: ItemId) -> Result<Readied, NoMemory>
+    ensures { IfOk result (IsReadied store.now.items (entries.Paused id)) }
+{
+    let entry = Entry::Paused { id };
+    let readied = ready(store, &entry);
+    let_go(entry);
+    readied
 }
 
 /// Saves what was landed, and then pauses.
@@ -113,7 +139,10 @@ fn save_and_pause<D: Disk, O: Origin>(
             Ok(()) => Ok(()),
             Err(kind) => Err(DeskFault::Journal(kind)),
         },
-        Err(fault) => Err(unsaved(fault)),
+        Err(fault) => {
+            let_go(readied);
+            Err(unsaved(fault))
+        }
     }
 }
 

@@ -1,9 +1,12 @@
-ghost use Rattle.std.specs.Prelude.{◌≡◌, ◌+◌, ℕ, false, OnOk};
+ghost use Rattle.std.specs.Prelude.{◌≡◌, ◌+◌, ℕ, false, IfOk, OnOk};
 ghost use Rattle.dm_types.specs.Faults.{HasCause};
 ghost use Rattle.dm_types.specs.Name.{IsPart};
+ghost use Rattle.dm_types.specs.declared.entry.Entry.TheVariants as entries;
 ghost use Rattle.dm_disk_model.specs.Beside.{Besides};
+ghost use Rattle.dm_record.specs.Limits.{IsSpellable};
 ghost use Rattle.dm_store.specs.Keeps.{Keeps, StaysNear};
 ghost use Rattle.dm_store.specs.Origin.{said_of};
+ghost use Rattle.dm_store.specs.Readied.{IsReadied};
 ghost use Rattle.dm_store.specs.Saving.{save_kind};
 ghost use Rattle.dm_store.specs.Store.{HasRoomOf, IsStore, view_of};
 ghost use Rattle.dm_answers.specs.Frame.{KeepsReads};
@@ -13,7 +16,7 @@ use dm_answers::DeskFault;
 use dm_disk_model::Disk;
 use dm_edge::Origin;
 use dm_store::{Readied, SaveFault, Store, life_of, ready, save};
-use dm_types::{Entry, ItemId, NoMemory};
+use dm_types::{Entry, ItemId, NoMemory, Slices, let_go};
 
 /// What saves all that was landed, with its memory.
 #[derive(Drop)]
@@ -52,9 +55,37 @@ pub fn prepare_saving<D: Disk, O: Origin>(
         unreachable!();
     };
     let slices = life.cover.normal(item.total)?;
-    let entry = Entry::Progress { id, slices };
-    let readied = ready(store, &entry)?;
-    Ok(Some(Prepared { entry, readied }))
+    match ready_progress(store, id, slices) {
+        Ok(prepared) => Ok(Some(prepared)),
+        Err(NoMemory) => Err(NoMemory),
+    }
+}
+
+/// Makes ready to save these places of an item. It changes nothing.
+fn ready_progress<D: Disk, O: Origin>(
+    store: &Store<D, O>,
+    id: ItemId,
+    slices: Slices,
+) -> Result<Prepared, NoMemory>
+    requires { IsSpellable (entries.Progress id slices) }
+    ensures entry { IfOk result (λ prepared. prepared.entry ≡ entries.Progress id slices) }
+    ensures readied { IfOk result (λ prepared. IsReadied store.now.items prepared.entry prepared.readied) }
+{
+    let entry = progress(id, slices);
+    match ready(store, &entry) {
+        Ok(readied) => Ok(Prepared { entry, readied }),
+        Err(NoMemory) => {
+            let_go(entry);
+            Err(NoMemory)
+        }
+    }
+}
+
+/// The entry that saves these places of an item.
+fn progress(id: ItemId, slices: Slices) -> Entry
+    ensures { result ≡ entries.Progress id slices }
+{
+    Entry::Progress { id, slices }
 }
 
 /// Saves what was made ready of an item's attempt, if anything was. It takes no memory.

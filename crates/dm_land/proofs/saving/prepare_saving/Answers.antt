@@ -7,8 +7,8 @@ use Rattle.dm_store.specs.Store.{view_of}
 use Rattle.dm_land.proofs.Saves.{own_life, told_unsaved}
 use Rattle.dm_land.proofs.saving.prepare_saving.Goals as goal
 
-pub returns : goal.returns
-returns g c =
+pub returns-in-Ok : goal.returns-in-Ok
+returns-in-Ok g c =
     let here = sym (c.in-Some.ensures ∙ ap (life_in c.args.id.0) c.deref.ensures.value) in
     let there = sym c.in-Some-get.ensures in
     let more = c.if-life-eq0.false in
@@ -19,8 +19,8 @@ returns g c =
         there = there;
         lives = here;
         told = told_unsaved c.in-Some-get.item.now c.in-Some.life.now (own_life (view_of c.args.store.now) c.args.id c.in-Some-get.item.now c.in-Some.life.now (c.requires.store.desk.lives c.requires.whole) there here) (omega (arith, more));
-        is = ap (λ (slices : List Slice). entries.Progress c.args.id slices) c.in_ok-slices.ensures.value;
+        is = c.in-Ok.ensures.entry ∙ ap (λ (slices : List Slice). entries.Progress c.args.id slices) c.in_ok-slices.ensures.value;
       };
       unsaved = omega (arith, more);
-      readied = c.in_ok-readied.ensures;
+      readied = c.in-Ok.ensures.readied;
     }
