@@ -25,6 +25,7 @@ use Rattle.dm_item.specs.Fields.{no_bytes}
 use Rattle.dm_item.specs.Lawful.{History, IsOf}
 use Rattle.dm_item.specs.Listing.{Listing, changed_at, item_in}
 use Rattle.dm_item.specs.Row.{changed}
+use Rattle.dm_reply.specs.declared.head.Head.{Head}
 use Rattle.dm_kept.specs.Files.{Says}
 use Rattle.dm_store.specs.Becomes.{Fell, Recorded}
 use Rattle.dm_store.specs.Keeps.{IsDesk}
@@ -179,7 +180,7 @@ module _ {D O : Type 0} (tells : Type 0) (clock : D → Clock) (says : O → Say
       let is = life_is tells clock old pass (IsTraced scene (untold led lost count)) desk live.goes.went.broken_is live.runs in
       sym live.runs.is.cover_is ∙ (is.untold (ap (λ (i : Item). i.key) live.runs.is.item_is ∙ none)).0
 
-  module _ (led lost : List Closed) (count : ℕ) (told : Told) (address : Address) (none : (begun_by scene).key ≡ None) (at : told.last_address ≡ address.text) (bare : Lives old (untold led lost count)) where
+  module _ (led lost : List Closed) (count : ℕ) (head : Head) (told : Told) (address : Address) (none : (begun_by scene).key ≡ None) (at : told.last_address ≡ address.text) (bare : Lives old (untold led lost count)) where
     -- the trace with the wish
     abbrev mine : Trace
     mine = wished led lost count told.wish
@@ -205,7 +206,7 @@ module _ {D O : Type 0} (tells : Type 0) (clock : D → Clock) (says : O → Say
         ap (λ (i : ItemId). entries.Described i told.key told.last_address told.total name told.modified) (own_id tells clock says far counts scene pass old mine live)
         ∙ ap (λ (t : List ℕ). entries.Described scene.item.id told.key t told.total name told.modified) at
 
-    named_live : (name : List ℕ) → Recorded old new (described_by pass told name ∷ []) → Lives new (told_with led lost count told.wish (tale_of address told name))
+    named_live : (name : List ℕ) → Recorded old new (described_by pass told name ∷ []) → Lives new (told_with led lost count told.wish (tale_of head address told name))
     named_live name recorded =
         let entry = entries.Described scene.item.id told.key address.text told.total name told.modified in
         let own : Recorded old new (entry ∷ []) = subst (λ (e : Entry). Recorded old new (e ∷ [])) (entry_is name) recorded in
@@ -232,7 +233,7 @@ module _ {D O : Type 0} (tells : Type 0) (clock : D → Clock) (says : O → Say
           planned = record { saves = tt; rounds = tt; placed = tt };
         }
 
-    pub was_named : RecordedOne old new (Names tells clock old pass told named.Named) → WithNames tells clock old (IsNamedBy tells clock says far counts scene pass new led lost count told address)
+    pub was_named : RecordedOne old new (Names tells clock old pass told named.Named) → WithNames tells clock old (IsNamedBy tells clock says far counts scene pass new led lost count head told address)
     was_named one = record {
       listed = one.is.listed;
       lists = one.is.lists;
@@ -242,7 +243,7 @@ module _ {D O : Type 0} (tells : Type 0) (clock : D → Clock) (says : O → Say
     none_met : WithNames tells clock old (AreAllTaken told.wish) → DeskMet tells clock says far counts scene pass mine causes.NamesTaken
     none_met all = record { desk = old; live = live; is = (told.wish, refl, refl, all) }
 
-    pub none_named : RecordedOne old new (Names tells clock old pass told named.AllTaken) → DescribeLeaves tells clock says far counts scene pass old new led lost count told address (Err (stops.Recorded reasons.FileFailed))
+    pub none_named : RecordedOne old new (Names tells clock old pass told named.AllTaken) → DescribeLeaves tells clock says far counts scene pass old new led lost count head told address (Err (stops.Recorded reasons.FileFailed))
     none_named one = (
       refl,
       record {
@@ -262,7 +263,7 @@ module _ {D O : Type 0} (tells : Type 0) (clock : D → Clock) (says : O → Say
             let name = gives.is.is.name in
             let entry = entries.Described scene.item.id told.key address.text told.total name told.modified in
             let tries : fell.behind ≡ entry ∷ [] = gives.one ∙ ap (λ (e : Entry). e ∷ []) (gives.is.is.is ∙ entry_is name) in
-            fell_at tells clock says far counts scene pass old new call NoCause mine (told_with led lost count told.wish (tale_of address told name)) (Broken causes.Memory) (entry ∷ []) (close_entries scene.item.id scene.at (Broken causes.Memory)) refl refl refl live
+            fell_at tells clock says far counts scene pass old new call NoCause mine (told_with led lost count told.wish (tale_of head address told name)) (Broken causes.Memory) (entry ∷ []) (close_entries scene.item.id scene.at (Broken causes.Memory)) refl refl refl live
             (record { saves = tt; rounds = tt; placed = tt }) (subst (Fell old new) tries fell.fell) refl (inl refl)
         by (inr (inl none)) =
             let same = own_id tells clock says far counts scene pass old mine live in
@@ -304,11 +305,11 @@ module _ {D O : Type 0} (tells : Type 0) (clock : D → Clock) (says : O → Say
         fault (hard_describe tells clock counts old new pass told fault live.goes.went.broken_is
         (weaker old pass.id pass.attempt (IsTraced scene mine) IsSilent (λ item life traced. ap (λ (i : Item). i.key) traced.item_is ∙ none) live.runs) answer) answer rose
 
-    left_by : (stop : Stop) → Refused tells clock says far counts scene pass new mine stop → DescribeLeaves tells clock says far counts scene pass old new led lost count told address (Err stop)
+    left_by : (stop : Stop) → Refused tells clock says far counts scene pass new mine stop → DescribeLeaves tells clock says far counts scene pass old new led lost count head told address (Err stop)
     left_by (stops.Broke cause) refused = absurd refused
     left_by stops.NoMemory refused = refused
     left_by (stops.Fault fault) refused = refused
     left_by (stops.Recorded reason) refused = absurd refused
 
-    pub describe_left : (fault : DeskFault) → DescribeAnswers tells clock counts old new pass told (Err fault) → Raises fault → DescribeLeaves tells clock says far counts scene pass old new led lost count told address (Err (stop_by fault))
+    pub describe_left : (fault : DeskFault) → DescribeAnswers tells clock counts old new pass told (Err fault) → Raises fault → DescribeLeaves tells clock says far counts scene pass old new led lost count head told address (Err (stop_by fault))
     describe_left fault answer rose = left_by (stop_by fault) (describe_stops fault answer rose)

@@ -9,7 +9,9 @@ use Rattle.dm_edge.specs.declared.wanted.Wanted.{Wanted}
 use Rattle.dm_edge.specs.declared.wanted.Wanted.TheVariants as wanted
 use Rattle.dm_edge.specs.Fair.{ask_of, first_of}
 use Rattle.dm_edge.specs.Wire.{Purpose}
+use Rattle.dm_reply.specs.declared.head.Head.{Head}
 use Rattle.dm_attempt.specs.declared.source.Source.{Source}
+use Rattle.dm_attempt.specs.Heads.{SaysReply}
 
 -- how a round asks: whether the first reply serves its first part, of which content the other parts are asked for, where they may be, what its connections
 -- are made for, under which key the content stands, and whether its length is known
@@ -19,6 +21,7 @@ pub record Asking : Type 0 where
   pub purpose : Purpose
   pub key : Key
   pub known : Bool
+  pub reply : Option Head
 
 -- the range request for a part: up to its last place, under the content's tag (RFC 9110, sections 13.1.5 and 14.2)
 abbrev pub range_of : Source → Part → Wanted
@@ -36,12 +39,14 @@ WantedBy asking part asked =
     ((asking.served ≡ true) × (part.index ≡ 0) × (asked ≡ wanted.Whole))
     ⊎ (((asking.served ≡ false) ⊎ (part.index ≢ 0)) × IsRangeOf asking.source part asked)
 
--- A connection is made for the round, and its whole request asks for the part, from its first place on.
-pub record IsAsked (tells : Type 0) (asking : Asking) (part : Part) (asked : Wanted) (purpose : Purpose) (sent : List ℕ) : Type 0 where
+-- A connection is made for the round, and its whole request asks for the part, from its first place on. What came where the whole content was asked for begins with
+-- the head of the first reply.
+pub record IsAsked (tells : Type 0) (asking : Asking) (part : Part) (asked : Wanted) (purpose : Purpose) (sent came : List ℕ) : Type 0 where
   pub wanted_is : WantedBy asking part asked
   pub first_is : first_of asked ≡ part.first
   pub purpose_is : tells → purpose ≡ asking.purpose
   pub sent_is : tells → sent ≡ request_of purpose.address (ask_of asked)
+  pub replied : tells → asked ≡ wanted.Whole → SaysReply asking.reply came
 
 -- Ranges are asked for under a strong tag of a content whose total is known.
 abbrev pub source_by : Address → Key → Option ℕ → Option Source

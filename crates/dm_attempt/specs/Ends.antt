@@ -11,6 +11,7 @@ use Rattle.dm_name.specs.Forms.{IsFirstFree}
 use Rattle.dm_slice.specs.Plan.{parts_by}
 use Rattle.dm_slice.specs.declared.plan.Part.{Part}
 use Rattle.dm_edge.specs.Wire.{Closed}
+use Rattle.dm_reply.specs.declared.head.Head.{Head}
 use Rattle.dm_kept.specs.Files.{Says}
 use Rattle.dm_store.specs.declared.pass.Pass.{Pass}
 use Rattle.dm_store.specs.View.{View}
@@ -57,20 +58,20 @@ PlanLeaves tells clock says far counts scene pass present trace asking (Err (sto
 PlanLeaves tells clock says far counts scene pass present trace asking (Err stops.NoMemory) = LiveDesk tells clock says far counts scene pass present trace
 PlanLeaves tells clock says far counts scene pass present trace asking (Err _) = ⊥
 
--- what was told, with the name that the item got
-abbrev pub tale_of : Address → Told → List ℕ → Tale
-tale_of address told name = record { address = address; key = told.key; total = told.total; name = name; modified = told.modified }
+-- what was told, by this head, with the name that the item got
+abbrev pub tale_of : Head → Address → Told → List ℕ → Tale
+tale_of head address told name = record { head = head; address = address; key = told.key; total = told.total; name = name; modified = told.modified }
 
 -- the item has the first free form of the wish, and the attempt runs on
-pub record IsNamedBy {D O : Type 0} (tells : Type 0) (clock : D → Clock) (says : O → Says) (far : D → ℕ) (counts : D → DiskKind → ℕ) (scene : Scene D O) (pass : Pass) (present : View D O) (led lost : List Closed) (count : ℕ) (told : Told) (address : Address) (taken : List (List ℕ)) : Type 0 where
+pub record IsNamedBy {D O : Type 0} (tells : Type 0) (clock : D → Clock) (says : O → Says) (far : D → ℕ) (counts : D → DiskKind → ℕ) (scene : Scene D O) (pass : Pass) (present : View D O) (led lost : List Closed) (count : ℕ) (head : Head) (told : Told) (address : Address) (taken : List (List ℕ)) : Type 0 where
   pub name : List ℕ
   pub free : IsFirstFree told.wish taken name
-  pub live : LiveDesk tells clock says far counts scene pass present (told_with led lost count told.wish (tale_of address told name))
+  pub live : LiveDesk tells clock says far counts scene pass present (told_with led lost count told.wish (tale_of head address told name))
 
-abbrev pub DescribeLeaves : {D O : Type 0} → Type 0 → (D → Clock) → (O → Says) → (D → ℕ) → (D → DiskKind → ℕ) → Scene D O → Pass → View D O → View D O → List Closed → List Closed → ℕ → Told → Address → Result (Unit {0}) Stop → Type 0
-DescribeLeaves tells clock says far counts scene pass old new led lost count told address (Ok done) = WithNames tells clock old (IsNamedBy tells clock says far counts scene pass new led lost count told address)
-DescribeLeaves tells clock says far counts scene pass old new led lost count told address (Err (stops.Recorded reason)) =
+abbrev pub DescribeLeaves : {D O : Type 0} → Type 0 → (D → Clock) → (O → Says) → (D → ℕ) → (D → DiskKind → ℕ) → Scene D O → Pass → View D O → View D O → List Closed → List Closed → ℕ → Head → Told → Address → Result (Unit {0}) Stop → Type 0
+DescribeLeaves tells clock says far counts scene pass old new led lost count head told address (Ok done) = WithNames tells clock old (IsNamedBy tells clock says far counts scene pass new led lost count head told address)
+DescribeLeaves tells clock says far counts scene pass old new led lost count head told address (Err (stops.Recorded reason)) =
     (reason ≡ reason_of_cause causes.NamesTaken) × RecordedBy tells clock says far counts scene pass new (wished led lost count told.wish) reason
-DescribeLeaves tells clock says far counts scene pass old new led lost count told address (Err stops.NoMemory) = LiveDesk tells clock says far counts scene pass new (wished led lost count told.wish)
-DescribeLeaves tells clock says far counts scene pass old new led lost count told address (Err (stops.Fault fault)) = FaultLeaves tells clock says far counts scene new (wished led lost count told.wish) fault
-DescribeLeaves tells clock says far counts scene pass old new led lost count told address (Err (stops.Broke cause)) = ⊥
+DescribeLeaves tells clock says far counts scene pass old new led lost count head told address (Err stops.NoMemory) = LiveDesk tells clock says far counts scene pass new (wished led lost count told.wish)
+DescribeLeaves tells clock says far counts scene pass old new led lost count head told address (Err (stops.Fault fault)) = FaultLeaves tells clock says far counts scene new (wished led lost count told.wish) fault
+DescribeLeaves tells clock says far counts scene pass old new led lost count head told address (Err (stops.Broke cause)) = ⊥

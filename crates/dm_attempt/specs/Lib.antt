@@ -1,6 +1,8 @@
 pub mod Shares
+pub mod Heads
 pub mod Asking
 pub mod Trace
+pub mod Replied
 pub mod Scene
 pub mod Goes
 pub mod Live

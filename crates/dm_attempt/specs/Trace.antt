@@ -15,6 +15,7 @@ use Rattle.dm_slice.specs.declared.plan.Part.{Part}
 use Rattle.dm_edge.specs.Wire.{Closed}
 use Rattle.dm_attempt.specs.Shares.{Share, added}
 use Rattle.dm_edge.specs.declared.wanted.Wanted.{Wanted}
+use Rattle.dm_reply.specs.declared.head.Head.{Head}
 use Rattle.dm_attempt.specs.Asking.{Asking}
 
 -- a closed connection, its part, and what it asked for
@@ -30,8 +31,9 @@ pub record Round : Type 0 where
   pub shares : List Share
   pub wires : List Carried
 
--- what the first reply told, and the name that the file got
+-- what the first reply told, by its head, and the name that the file got
 pub record Tale : Type 0 where
+  pub head : Head
   pub address : Address
   pub key : Key
   pub total : Option ℕ

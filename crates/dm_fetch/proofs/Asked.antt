@@ -153,7 +153,7 @@ module _ {D O : Type 0} (net : Type 0) (t : net) (tells : Type 0) (clock : D →
       let bare = (begun_bare scene.item scene.by scene.at sound asks.none).0 in
       let well : StartsWell (told_by scene trace.told).total (begun_by scene).slices =
       subst (λ (found : Option ℕ). StartsWell found (begun_by scene).slices) (sym total) (subst (StartsWell tale.total) (sym bare) (well_bare tale.total tale_is.small)) in
-      never_used_up net t scene trace list (first_asking pass tale) (first_knows scene pass trace list knows tale is) serves (subst (λ (n : ℕ). 1 ≤ n) (sym tale_is.count_is) (count_some slices tale_is.head.strong tale_is.head.total tale_is.head.ranges some)) least cause well
+      never_used_up net t scene trace list (first_asking pass tale) (first_knows scene pass trace list knows tale is) serves (subst (λ (n : ℕ). 1 ≤ n) (sym tale_is.count_is) (count_some slices tale.head.strong tale.head.total tale.head.ranges some)) least cause well
       (subst (λ (found : Option ℕ). IfSome found (λ n. is_some tale.total ≡ true)) (sym total) (if_known tale.total)) planned rounds up
 
   -- Where all is served, the rounds of an attempt aren't used up.

@@ -84,13 +84,13 @@ module _ {D O : Type 0} (tells : Type 0) (clock : D → Clock) (says : O → Say
         → FreshLeaves tells clock says far counts net scene pass old new closed before after first (begun_by scene).wish slices result → DriveLeaves tells clock says far counts net scene pass new closed before after slices result
     fresh_drives first none stable (Ok done) leaves = record {
       trace = leaves.trace;
-      asks = anew (record { none = none; first = first; stable = stable; desk = old; live = begun.live 0; fresh = leaves.fresh; rounds = leaves.rounds });
+      asks = anew (record { none = none; first = first; stable = stable; desk = old; live = begun.live 0; fresh = leaves.fresh; replied = leaves.replied; rounds = leaves.rounds });
       closed_is = leaves.ended.closed_is;
       finished = record { digest = leaves.ended.digest; done = leaves.ended.done; saves = leaves.ended.saves; over = leaves.ended.over };
     }
     fresh_drives first none stable (Err stop) leaves = record {
       trace = leaves.trace;
-      asks = anew (record { none = none; first = first; stable = stable; desk = old; live = begun.live 0; fresh = leaves.fresh; rounds = leaves.rounds });
+      asks = anew (record { none = none; first = first; stable = stable; desk = old; live = begun.live 0; fresh = leaves.fresh; replied = leaves.replied; rounds = leaves.rounds });
       closed_is = leaves.stopped.closed_is;
       holds = leaves.stopped.holds;
       shown = if_net after leaves.trace stop leaves.stopped.shown;

@@ -13,6 +13,8 @@ use Rattle.dm_types.specs.declared.reason.Reason.TheVariants as reasons
 use Rattle.dm_types.specs.declared.slices.Slice.{Slice}
 use Rattle.dm_policy.specs.declared.cause.Cause.TheVariants as causes
 use Rattle.dm_edge.specs.declared.wanted.Wanted.TheVariants as wanted
+use Rattle.dm_reply.specs.declared.head.Head.{Head}
+use Rattle.dm_reply.specs.declared.head.Kind.TheVariants as kinds
 use Rattle.dm_slice.specs.Cover.{normal_of}
 use Rattle.dm_slice.specs.Plan.{parts_by}
 use Rattle.dm_item.specs.Fields.{added_item, no_bytes}
@@ -62,8 +64,11 @@ broken = record waiting {
 abbrev address : Address
 address = record { text = place; host = codes "h"; port = 80; target = codes "/a" }
 
+abbrev head : Head
+head = record { kind = kinds.Content; status = 200; strong = Some (codes "a"); first = 0; last = None; total = Some 11; ranges = true; disposition = None; modified = [] }
+
 abbrev tale : Tale
-tale = record { address = address; key = strong; total = Some 11; name = codes "hello.txt"; modified = [] }
+tale = record { head = head; address = address; key = strong; total = Some 11; name = codes "hello.txt"; modified = [] }
 
 abbrev trace_of : Option Tale → List (List Slice) → Trace
 trace_of heard saves = record { led = []; lost = []; wish = None; told = heard; count = 1; rounds = []; saves = saves }

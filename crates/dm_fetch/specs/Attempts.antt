@@ -1,5 +1,5 @@
 -- One attempt: what it asked for, what it did at the desk, and how it ended, by one witness.
-use Rattle.std.specs.Prelude.{◌≡◌, ◌⊎◌, ◌≤◌, ℕ, List, [], length, Option, Some, None}
+use Rattle.std.specs.Prelude.{◌≡◌, ◌⊎◌, ◌≤◌, ℕ, List, [], length, Option, Some, None, IfSome}
 use Rattle.dm_types.specs.declared.address.Address.{Address}
 use Rattle.dm_types.specs.declared.item.Item.{Item}
 use Rattle.dm_types.specs.declared.item.ItemId.{ItemId}
@@ -34,7 +34,7 @@ use Rattle.dm_attempt.specs.Live.{DeskOver, LiveDesk}
 use Rattle.dm_attempt.specs.Scene.{Scene, begun_by, cover_by, item_by}
 use Rattle.dm_attempt.specs.Shows.{DeskDone, total_by}
 use Rattle.dm_attempt.specs.Trace.{Broken, Done, Round, Trace, untold, with_saves}
-use Rattle.dm_rounds.specs.First.{IsFreshTrace, ToldRounds}
+use Rattle.dm_rounds.specs.First.{IsFreshTrace, IsReplyOf, ToldRounds}
 use Rattle.dm_rounds.specs.Reading.{closed_before}
 use Rattle.dm_rounds.specs.Trail.{AreCut, AreRead, IsShown, kept_asking}
 use Rattle.dm_fetch.specs.Starts.{BeginRefuses, scene_of}
@@ -65,7 +65,8 @@ pub record AsksNothing (trace : Trace) : Type 0 where
   pub rounds : trace.rounds ≡ []
 
 -- The first address was asked without a range, and then each one that a redirect led to. The first reply serves the first part of the first round, and all
--- other parts are asked for by their ranges.
+-- other parts are asked for by their ranges. What was told, and the wish for a name, is what the head of that reply says, on its own connection: how many bytes come,
+-- under which tag, whether ranges are given, the Content-Disposition and the Last-Modified.
 pub record AsksAnew {D O : Type 0} (tells : Type 0) (clock : D → Clock) (says : O → Says) (far : D → ℕ) (counts : D → DiskKind → ℕ) (net : Type 0) (scene : Scene D O) (pass : Pass) (slices : ℕ) (P : Asking → List Round → Type 0) (trace : Trace) : Type 0 where
   pub none : (begun_by scene).key ≡ None
   pub first : Address
@@ -73,6 +74,7 @@ pub record AsksAnew {D O : Type 0} (tells : Type 0) (clock : D → Clock) (says 
   pub desk : View D O
   pub live : LiveDesk tells clock says far counts scene pass desk (untold [] [] 0)
   pub fresh : IsFreshTrace tells clock net desk pass first (begun_by scene).wish slices trace
+  pub replied : net → IfSome trace.wish (IsReplyOf pass (begun_by scene).wish trace)
   pub rounds : ToldRounds P pass trace.told trace.rounds
 
 -- Ranges alone were asked for, at the last address and under the kept tag.

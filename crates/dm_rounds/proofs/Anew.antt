@@ -31,18 +31,19 @@ use Rattle.dm_attempt.specs.Ending.{IfBroke, IsOfDesk, StopHolds}
 use Rattle.dm_attempt.specs.Ends.{tale_of}
 use Rattle.dm_attempt.specs.Live.{LiveDesk}
 use Rattle.dm_attempt.specs.Scene.{Scene}
-use Rattle.dm_attempt.specs.Trace.{Round, Tale, Trace, told_with, untold, wires_of}
+use Rattle.dm_attempt.specs.Trace.{Round, Tale, Trace, told_with, untold, wires_of, wished}
 use Rattle.dm_rounds.specs.declared.first.Reply.{Reply}
 use Rattle.dm_rounds.specs.Beginning.{IsBefore, IsNamedAs, NotPlanned}
-use Rattle.dm_rounds.specs.First.{FreshEnds, FreshLeaves, FreshStops, IsHeard, IsFreshTrace, IsLedAndLost, IsLedTo, IsLostAt, IsReplied, IsTold, IsWished, StopsFirst, ToldRounds, first_asking}
+use Rattle.dm_rounds.specs.First.{FreshEnds, FreshLeaves, FreshStops, IsHeard, IsFreshTrace, IsLedAndLost, IsLedTo, IsLostAt, IsReplied, IsReplyOf, IsTaleOf, IsTold, IsWished, StopsFirst, ToldRounds, first_asking}
 use Rattle.dm_rounds.specs.Lanes.{NetCounts, is_net_cause}
 use Rattle.dm_rounds.specs.Opened.{IsFrontSent}
 use Rattle.dm_rounds.specs.Parts.{IsOfNet}
 use Rattle.dm_rounds.specs.Reading.{closed_before}
 use Rattle.dm_rounds.specs.Serving.{HasReply}
 use Rattle.dm_rounds.specs.Telling.{IsToldOf}
-use Rattle.dm_rounds.specs.Trail.{AreCut, AreRead, GoesFrom, IsShown, NetShowsIt, RunEnds, RunStops}
+use Rattle.dm_rounds.specs.Trail.{AreCut, AreRead, GoesFrom, IsServedIn, IsShown, NetShowsIt, RunEnds, RunStops}
 use Rattle.dm_rounds.proofs.Causes.{net_apart}
+use Rattle.dm_rounds.proofs.Heard.{IsOwn, first_replied, lost_replied}
 use Rattle.dm_rounds.proofs.Losing.{asking_shown, contains_here}
 use Rattle.dm_rounds.proofs.Lost.{drop_all}
 use Rattle.dm_rounds.proofs.Onward.{shown_longer}
@@ -77,7 +78,6 @@ module _ {D O : Type 0} (tells : Type 0) (clock : D → Clock) (says : O → Say
 
     told_later : (older trace : Trace) → GoesFrom older trace → (tale : Tale) → IsTold tells clock net old pass first handed slices older tale → IsTold tells clock net old pass first handed slices trace tale
     told_later older trace from tale is = record {
-      head = is.head;
       wish = is.wish;
       wish_is = from.wish_is ∙ is.wish_is;
       by = is.by;
@@ -101,16 +101,28 @@ module _ {D O : Type 0} (tells : Type 0) (clock : D → Clock) (says : O → Say
     }
 
     module _ (present : View D O) (closed : List Closed) (older : Trace) (tale : Tale) (told_is : older.told ≡ Some tale) (none_lost : older.lost ≡ []) (fresh : Fresh older) where
+      -- the head that was told is that of the first part's own connection
+      run_replied : (trace : Trace) → GoesFrom older trace → IsServedIn net (first_asking pass tale) trace.rounds → net → IfSome trace.wish (IsReplyOf pass handed trace)
+      run_replied trace from served n =
+          let is : IsTold tells clock net old pass first handed slices older tale = subst (λ (t : Option Tale). IfSome t (IsTold tells clock net old pass first handed slices older)) told_is fresh.told in
+          subst (λ (w : Option (List ℕ)). IfSome w (IsReplyOf pass handed trace)) (sym (from.wish_is ∙ is.wish_is)) (record {
+            head = tale.head;
+            address = tale.address;
+            has = first_replied pass tale trace (served n refl);
+            wish_is = is.by;
+            told = subst (λ (t : Option Tale). IfSome t (IsTaleOf tale.head tale.address)) (sym (from.told_is ∙ told_is)) (record { head_is = refl; address_is = refl });
+          })
+
       told_rounds : (P : Asking → List Round → Type 0) (trace : Trace) → GoesFrom older trace → P (first_asking pass tale) trace.rounds → ToldRounds P pass trace.told trace.rounds
       told_rounds P trace from are = subst (λ (t : Option Tale). ToldRounds P pass t trace.rounds) (sym (from.told_is ∙ told_is)) are
 
       pub fresh_ends : RunEnds tells clock says far counts net scene pass present closed older (first_asking pass tale) → FreshEnds tells clock says far counts net scene pass old present closed first handed slices
-      fresh_ends ends = record { trace = ends.trace; fresh = fresh_later older ends.trace ends.from (inr (ends.from.lost_is ∙ none_lost)) fresh; rounds = told_rounds (AreRead net) ends.trace ends.from ends.rounds; ended = ends.ended }
+      fresh_ends ends = record { trace = ends.trace; fresh = fresh_later older ends.trace ends.from (inr (ends.from.lost_is ∙ none_lost)) fresh; replied = run_replied ends.trace ends.from ends.served; rounds = told_rounds (AreRead net) ends.trace ends.from ends.rounds; ended = ends.ended }
 
       pub fresh_stops : (before now : NetFault → ℕ) (stop : Stop) → RunStops tells clock says far counts net scene pass present closed before now older (first_asking pass tale) stop
           → FreshStops tells clock says far counts net scene pass old present closed before now first handed slices stop
       fresh_stops before now stop stopped =
-          record { trace = stopped.trace; fresh = fresh_later older stopped.trace stopped.from (inr (stopped.from.lost_is ∙ none_lost)) fresh; rounds = told_rounds (AreCut net) stopped.trace stopped.from stopped.rounds; stopped = stopped.stopped }
+          record { trace = stopped.trace; fresh = fresh_later older stopped.trace stopped.from (inr (stopped.from.lost_is ∙ none_lost)) fresh; replied = run_replied stopped.trace stopped.from stopped.served; rounds = told_rounds (AreCut net) stopped.trace stopped.from stopped.rounds; stopped = stopped.stopped }
 
     -- ---- no content was reached
     front_sent : (Cuts : Cause → Type 0) (request sent : List ℕ) (cause : Cause) → SentUntil Cuts request sent cause → IsFrontSent request sent
@@ -171,6 +183,7 @@ module _ {D O : Type 0} (tells : Type 0) (clock : D → Clock) (says : O → Say
       none_reached desk stop live still own counted stopped = record {
         trace = untold [] since 0;
         fresh = record { led = λ n. by_stop (IsLedAndLost pass first since) led_since stop (stopped n); alone = inl refl; wished = tt; told = tt };
+        replied = λ n. tt;
         rounds = refl;
         stopped = record {
           closed_is = λ n. by_stop (after ≡ start ++ since) all_since stop (stopped n) ∙ ap (λ (l : List Closed). l ++ since) (still n);
@@ -196,13 +209,12 @@ module _ {D O : Type 0} (tells : Type 0) (clock : D → Clock) (says : O → Say
       before_fresh lost left trace (inr by) = subst Fresh (sym by.2) (record { led = led_and lost left; alone = inl refl; wished = wished_by by.0 by.1; told = tt })
 
       pub told_fresh : (lost : List Closed) → IsLeft lost → (told : Tells) (name : List ℕ) → IsToldOf handed reply.head reply.address reply.key told → WithNames tells clock old (λ taken. IsFirstFree told.wish taken name) → count ≡ count_by slices reply.head.strong reply.head.total reply.head.ranges
-          → Fresh (told_with led lost count told.wish (tale_of reply.address told name))
+          → Fresh (told_with led lost count told.wish (tale_of reply.head reply.address told name))
       told_fresh lost left told name is named count_is = record {
         led = led_and lost left;
         alone = inl refl;
         wished = wished_by told is;
         told = record {
-          head = reply.head;
           wish = told.wish;
           wish_is = refl;
           by = is.wish_is;
@@ -218,33 +230,48 @@ module _ {D O : Type 0} (tells : Type 0) (clock : D → Clock) (says : O → Say
       }
 
       none_rounds : (P : Asking → List Round → Type 0) → ((first : Asking) → P first []) → (lost : List Closed) (trace : Trace)
-          → IsBefore led lost count handed reply.head reply.address reply.key trace ⊎ ((told : Tells) × IsToldOf handed reply.head reply.address reply.key told × WithNames tells clock old (IsNamedAs led lost count told reply.address trace))
+          → IsBefore led lost count handed reply.head reply.address reply.key trace ⊎ ((told : Tells) × IsToldOf handed reply.head reply.address reply.key told × WithNames tells clock old (IsNamedAs led lost count reply.head told reply.address trace))
           → ToldRounds P pass trace.told trace.rounds
       none_rounds P empty lost trace (inl (inl is)) = subst (λ (t : Trace). ToldRounds P pass t.told t.rounds) (sym is) refl
       none_rounds P empty lost trace (inl (inr by)) = subst (λ (t : Trace). ToldRounds P pass t.told t.rounds) (sym by.2) refl
-      none_rounds P empty lost trace (inr by) = subst (λ (t : Trace). ToldRounds P pass t.told t.rounds) (sym by.2.is.trace_is) (empty (first_asking pass (tale_of reply.address by.0 by.2.is.name)))
+      none_rounds P empty lost trace (inr by) = subst (λ (t : Trace). ToldRounds P pass t.told t.rounds) (sym by.2.is.trace_is) (empty (first_asking pass (tale_of reply.head reply.address by.0 by.2.is.name)))
 
       any_fresh : (lost : List Closed) → IsLeft lost → count ≡ count_by slices reply.head.strong reply.head.total reply.head.ranges → (trace : Trace)
-          → IsBefore led lost count handed reply.head reply.address reply.key trace ⊎ ((told : Tells) × IsToldOf handed reply.head reply.address reply.key told × WithNames tells clock old (IsNamedAs led lost count told reply.address trace))
+          → IsBefore led lost count handed reply.head reply.address reply.key trace ⊎ ((told : Tells) × IsToldOf handed reply.head reply.address reply.key told × WithNames tells clock old (IsNamedAs led lost count reply.head told reply.address trace))
           → Fresh trace
       any_fresh lost left count_is trace (inl before) = before_fresh lost left trace before
       any_fresh lost left count_is trace (inr by) =
           subst Fresh (sym by.2.is.trace_is) (told_fresh lost left by.0 by.2.is.name by.1 (record { listed = by.2.listed; lists = by.2.lists; is = by.2.is.free }) count_is)
 
+      any_replied : (c : Closed) → IsOwn pass reply.address reply.head c → (trace : Trace)
+          → IsBefore led (c ∷ []) count handed reply.head reply.address reply.key trace ⊎ ((told : Tells) × IsToldOf handed reply.head reply.address reply.key told × WithNames tells clock old (IsNamedAs led (c ∷ []) count reply.head told reply.address trace))
+          → IfSome trace.wish (IsReplyOf pass handed trace)
+      any_replied c own trace (inl (inl is)) = subst (λ (t : Trace). IfSome t.wish (IsReplyOf pass handed t)) (sym is) tt
+      any_replied c own trace (inl (inr by)) = subst (λ (t : Trace). IfSome t.wish (IsReplyOf pass handed t)) (sym by.2)
+          (record { head = reply.head; address = reply.address; has = lost_replied pass reply.address reply.head c (wished led (c ∷ []) count by.0.wish) own refl; wish_is = by.1.wish_is; told = tt })
+      any_replied c own trace (inr by) = subst (λ (t : Trace). IfSome t.wish (IsReplyOf pass handed t)) (sym by.2.is.trace_is) (record {
+        head = reply.head;
+        address = reply.address;
+        has = lost_replied pass reply.address reply.head c (told_with led (c ∷ []) count by.0.wish (tale_of reply.head reply.address by.0 by.2.is.name)) own refl;
+        wish_is = by.1.wish_is;
+        told = record { head_is = refl; address_is = refl };
+      })
+
       any_closed : (lost : List Closed) (trace : Trace)
-          → IsBefore led lost count handed reply.head reply.address reply.key trace ⊎ ((told : Tells) × IsToldOf handed reply.head reply.address reply.key told × WithNames tells clock old (IsNamedAs led lost count told reply.address trace))
+          → IsBefore led lost count handed reply.head reply.address reply.key trace ⊎ ((told : Tells) × IsToldOf handed reply.head reply.address reply.key told × WithNames tells clock old (IsNamedAs led lost count reply.head told reply.address trace))
           → closed_before scene trace ≡ scene.closed ++ (led ++ lost)
       any_closed lost trace (inl (inl is)) = ap (closed_before scene) is
       any_closed lost trace (inl (inr by)) = ap (closed_before scene) by.2
       any_closed lost trace (inr by) = ap (closed_before scene) by.2.is.trace_is
 
       -- no round was planned, and the reply's wire goes back
-      pub none_begun : (desk : View D O) (after : List Closed) (before now : NetFault → ℕ) (c : Closed) (stop : Stop) → count ≡ count_by slices reply.head.strong reply.head.total reply.head.ranges → (net → after ≡ closed ++ c ∷ []) → IsLeft (c ∷ [])
+      pub none_begun : (desk : View D O) (after : List Closed) (before now : NetFault → ℕ) (c : Closed) (stop : Stop) → count ≡ count_by slices reply.head.strong reply.head.total reply.head.ranges → (net → after ≡ closed ++ c ∷ []) → (net → IsOwn pass reply.address reply.head c)
           → NotPlanned tells clock says far counts scene pass old desk led (c ∷ []) count handed reply.head reply.address reply.key stop
           → FreshStops tells clock says far counts net scene pass old desk after before now first handed slices stop
-      none_begun desk after before now c stop count_is closes left none = record {
+      none_begun desk after before now c stop count_is closes own none = record {
         trace = none.trace;
-        fresh = any_fresh (c ∷ []) left count_is none.trace none.before;
+        fresh = any_fresh (c ∷ []) (λ n. ((own n).purpose_is, inl (own n).sent)) count_is none.trace none.before;
+        replied = λ n. any_replied c (own n) none.trace none.before;
         rounds = none_rounds (AreCut net) (λ first. tt) (c ∷ []) none.trace none.before;
         stopped = record {
           closed_is = λ n. closes n ∙ ap (λ (l : List Closed). l ++ c ∷ []) (has.closed_is n) ∙ append_assoc scene.closed led (c ∷ []) ∙ sym (any_closed (c ∷ []) none.trace none.before);
@@ -266,6 +293,7 @@ fresh_longer tells clock says far counts net scene pass old present closed befor
 fresh_longer tells clock says far counts net scene pass old present closed before between now first handed slices (Err stop) earlier leaves = record {
   trace = leaves.trace;
   fresh = leaves.fresh;
+  replied = leaves.replied;
   rounds = leaves.rounds;
   stopped = record { closed_is = leaves.stopped.closed_is; holds = leaves.stopped.holds; shown = shown_longer net before between now scene leaves.trace stop earlier leaves.stopped.shown };
 }

@@ -107,6 +107,7 @@ new_turn tells made_for told origin there asking source pass part shares lane as
           purpose_is = λ t. (heard t).purpose_is ∙ sym asks.purpose_is;
           sent_is = λ t. (heard t).sent_is ∙ ap (λ (w : Wanted). request_of source.address (ask_of w)) (sym new.wanted_is)
               ∙ ap (λ (p : Purpose). request_of p.address (ask_of lane.reader.wanted)) (sym (heard t).purpose_is);
+          replied = λ t whole. absurd (let e = sym new.wanted_is ∙ whole in cc);
         };
         bounded_is = new.bounded_is ∙ sym asks.known_is;
       };

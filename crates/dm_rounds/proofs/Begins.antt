@@ -62,30 +62,30 @@ telling pass handed head address key told plain key_is read is =
     }
 
 module _ {D O : Type 0} (tells : Type 0) (clock : D → Clock) (says : O → Says) (far : D → ℕ) (counts : D → DiskKind → ℕ) (scene : Scene D O) (pass : Pass) (old new : View D O) (led lost : List Closed) (count : ℕ) (handed : List ℕ) (head : Head) (address : Address) (key : Key) where
-  named_holds : (told : Told) (stop : Stop) → DescribeLeaves tells clock says far counts scene pass old new led lost count told address (Err stop) → StopHolds tells clock says far counts scene pass new (wished led lost count told.wish) stop
+  named_holds : (told : Told) (stop : Stop) → DescribeLeaves tells clock says far counts scene pass old new led lost count head told address (Err stop) → StopHolds tells clock says far counts scene pass new (wished led lost count told.wish) stop
   named_holds told (stops.Broke cause) leaves = absurd leaves
   named_holds told stops.NoMemory leaves = leaves
   named_holds told (stops.Fault fault) leaves = leaves
   named_holds told (stops.Recorded reason) leaves = leaves.1
 
-  named_apart : (told : Told) (stop : Stop) → DescribeLeaves tells clock says far counts scene pass old new led lost count told address (Err stop) → IsOfDesk stop
+  named_apart : (told : Told) (stop : Stop) → DescribeLeaves tells clock says far counts scene pass old new led lost count head told address (Err stop) → IsOfDesk stop
   named_apart told (stops.Broke cause) leaves = absurd leaves
   named_apart told stops.NoMemory leaves = tt
   named_apart told (stops.Fault fault) leaves = tt
   named_apart told (stops.Recorded reason) leaves = tt
 
   -- the desk didn't take what was told
-  pub not_told : (told : Told) → IsToldOf handed head address key told → (stop : Stop) → DescribeLeaves tells clock says far counts scene pass old new led lost count told address (Err stop)
+  pub not_told : (told : Told) → IsToldOf handed head address key told → (stop : Stop) → DescribeLeaves tells clock says far counts scene pass old new led lost count head told address (Err stop)
       → NotTold tells clock says far counts scene pass new led lost count handed head address key stop
   not_told told is stop leaves = record { trace = wished led lost count told.wish; before = inr (told, is, refl); apart = named_apart told stop leaves; holds = named_holds told stop leaves }
 
   -- it did, and the round is planned, or not
   module _ (mid : View D O) (told : HasTold tells clock says far counts scene pass old mid led lost count handed head address key) where
     abbrev pub named_trace : Trace
-    named_trace = told_with led lost count told.told.wish (tale_of address told.told told.named.is.name)
+    named_trace = told_with led lost count told.told.wish (tale_of head address told.told told.named.is.name)
 
     abbrev pub named_asking : Asking
-    named_asking = first_asking pass (tale_of address told.told told.named.is.name)
+    named_asking = first_asking pass (tale_of head address told.told told.named.is.name)
 
     pub named_live : LiveDesk tells clock says far counts scene pass mid named_trace
     named_live = told.named.is.live

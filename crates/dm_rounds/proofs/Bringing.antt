@@ -1,5 +1,5 @@
 -- The first round is read, and the attempt goes on from there.
-use Rattle.std.proofs.Common.{◌≡◌, ℕ, ◌+◌, Bool, true, false, List, length, drop, Some, Ok, refl, sym, ◌∙◌, ap, subst, arith}
+use Rattle.std.proofs.Common.{◌≡◌, inl, ℕ, ◌+◌, Bool, true, false, List, length, drop, Some, Ok, refl, sym, ◌∙◌, ap, subst, arith}
 use Rattle.dm_types.specs.declared.kinds.DiskKind.{DiskKind}
 use Rattle.dm_disk_model.specs.Disk.{History as Clock}
 use Rattle.dm_edge.specs.declared.fault.NetFault.{NetFault}
@@ -63,19 +63,19 @@ module _ {D O W : Type 0} (tells : Type 0) (clock : D → Clock) (says : O → S
       → IsOpened net wires made_for told origin there first (closed_before scene trace) closed (next_shares scene trace) open_lanes
       → IsRunning tells clock says far counts net wires made_for told origin scene next desk closed now trace first (next_shares scene trace) open_lanes at
   first_runs closed now open_lanes next pass_is turn same opened =
-      next_runs tells clock says far counts net scene going trace first first trace (from_same trace) asking_is none_read is.none_lost wires made_for told origin desk closed now open_lanes at next pass_is (turn ∙ one_turn)
+      next_runs tells clock says far counts net scene going trace first first trace (from_same trace) asking_is none_read is.none_lost (inl is.none) wires made_for told origin desk closed now open_lanes at next pass_is (turn ∙ one_turn)
       (round_opens tells clock says far counts scene pass desk trace first passes is.planned net wires made_for told origin closed open_lanes is.keyed
       (subst (λ (o : O). IsOpened net wires made_for told origin o first (closed_before scene trace) closed (next_shares scene trace) open_lanes) is.there_is opened)) (same ∙ is.there_is) is.at_is
 
   -- of one part it is
   pub one_opened : length passes ≡ 1 → IsOpened net wires made_for told origin there first (closed_before scene trace) before (next_shares scene trace) lanes
-  one_opened one = all_opened net wires made_for told origin there first (closed_before scene trace) before (next_shares scene trace) 1 lanes (share_count ∙ one) is.opening
+  one_opened one = all_opened net wires made_for told origin there first (closed_before scene trace) before (next_shares scene trace) 1 lanes (share_count ∙ one) (λ served. omega arith) is.opening
 
   -- where one part isn't had the round is given up
   pub first_lost : (source : Source) (since now : NetFault → ℕ) (closed : List Closed) (stop : Stop) → IsOfNet stop → LosesRound net first source pass (closed_before scene trace) closed since now (next_shares scene trace) stop
       → RunStops tells clock says far counts net scene pass desk closed since now trace first stop
   first_lost source since now closed stop own loses =
-      lost_stops tells clock says far counts net scene going trace first first trace (from_same trace) asking_is none_read is.none_lost since now desk closed stop source since (λ kind. omega arith)
+      lost_stops tells clock says far counts net scene going trace first first trace (from_same trace) asking_is none_read is.none_lost (inl is.none) since now desk closed stop source since (λ kind. omega arith)
       (lost_opens tells clock says far counts scene pass desk trace first passes is.planned net closed since now source stop own loses)
 
   -- one part alone leaves no place

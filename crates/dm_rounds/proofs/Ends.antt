@@ -16,6 +16,7 @@ use Rattle.dm_attempt.specs.Trace.{Carried}
 use Rattle.dm_rounds.specs.declared.lane.Lane.{Lane}
 use Rattle.dm_attempt.specs.Shares.{Share, total}
 use Rattle.dm_rounds.specs.Lanes.{Brought, IsLeft, IsRead, InRound, IsWholeRound, IsCarried, IsCutRound, Closes, LaneAsks, SomeBroke, StopSays, closed_lanes, is_at, is_of}
+use Rattle.dm_rounds.proofs.Heard.{reply_more}
 use Rattle.dm_rounds.proofs.Totals.{at_each, total_append, weaker_each, append_each}
 
 -- one of the connections has the number
@@ -51,6 +52,7 @@ whole_round {W} net tells made_for told asking start now shares lanes none round
       wires = round.wires;
       closed = round.closed;
       once = once;
+      first = round.first;
       all = round.each;
       each = λ n share at.
           let found = find (IsRead net asking shares) round.wires n (omega (arith, once n (slice_get_within shares n share at))) round.each in
@@ -84,7 +86,7 @@ module _ {W : Type 0} (net tells : Type 0) (by : net → tells) (made_for : W �
   unfolding carried_of
   carried_each [] left for = tt
   carried_each (lane ∷ lanes) left for =
-      (record { share = left.0.share; share_is = left.0.share_is; part_is = left.0.part_is; asked = record { wanted_is = for.0.asked.wanted_is; first_is = for.0.asked.first_is; purpose_is = λ n. for.0.asked.purpose_is (by n); sent_is = λ n. for.0.asked.sent_is (by n) }; brought = λ n. left.0.brought (by n) }, carried_each lanes left.1 for.1)
+      (record { share = left.0.share; share_is = left.0.share_is; part_is = left.0.part_is; asked = record { wanted_is = for.0.asked.wanted_is; first_is = for.0.asked.first_is; purpose_is = λ n. for.0.asked.purpose_is (by n); sent_is = λ n. for.0.asked.sent_is (by n); replied = λ n whole. reply_more asking.reply (told lane.wire).given (told lane.wire).left (for.0.asked.replied (by n) whole) }; brought = λ n. left.0.brought (by n) }, carried_each lanes left.1 for.1)
 
   pub cut_round : (start now after : List Closed) (lanes : List (Lane W)) → AllByRecursion (IsLeft tells told shares) lanes → (net → Closes made_for told now after lanes)
       → InRound net tells made_for told asking start now shares lanes → IsCutRound net asking start after shares
@@ -97,6 +99,7 @@ module _ {W : Type 0} (net tells : Type 0) (by : net → tells) (made_for : W �
             ∙ ap (λ (l : List Closed). start ++ (map connection round.wires ++ l)) (connections lanes)
             ∙ ap (λ (l : List Closed). start ++ l) (sym (map-append connection round.wires (map carried_of lanes)));
         once = λ n short. omega (arith, round.once n short, total_append (is_of n) round.wires (map carried_of lanes), counts n lanes);
+        first = round.first;
         each = append_each (IsCarried net asking shares) round.wires (map carried_of lanes)
             (weaker_each (IsRead net asking shares) (IsCarried net asking shares) (λ c is. record { share = is.share; share_is = is.share_is; part_is = is.part_is; asked = is.asked; brought = is.brought }) round.wires round.each)
             (carried_each lanes left round.asks);

@@ -55,9 +55,9 @@ module _ {D O W : Type 0} (tells : Type 0) (clock : D → Clock) (says : O → S
       same_Some asking.purpose.address.text address (sym has.keyed.address_is ∙ sym (ap (λ (i : Item). i.last_address) has.live.runs.is.item_is ∙ ap (λ (i : Item). i.last_address) (all_saves scene.item.id older.saves (told_by scene older.told)))
       ∙ ap (λ (i : Item). i.last_address) item_same ∙ placed) in
       let origin_is : origin new.wire ≡ desk.origin = same ∙ turn.origin_is ∙ sym has.live.goes.went.origin in
-      let asks : IsAsked wires asking old.part old.reader.wanted (made_for old.wire) (told new.wire).sent =
-      record { wanted_is = turn.asks.asked.wanted_is; first_is = turn.asks.asked.first_is; purpose_is = turn.asks.asked.purpose_is; sent_is = λ t. sent t ∙ turn.asks.asked.sent_is t } in
-      let said = said_piece wires (original (origin new.wire)) (made_for old.wire) (told new.wire) asking old.part old.reader.wanted new.reader turn.ready.left.share.bytes piece old.at
+      let asks : IsAsked wires asking old.part old.reader.wanted (made_for old.wire) (told new.wire).sent (told old.wire).given =
+      record { wanted_is = turn.asks.asked.wanted_is; first_is = turn.asks.asked.first_is; purpose_is = turn.asks.asked.purpose_is; sent_is = λ t. sent t ∙ turn.asks.asked.sent_is t; replied = turn.asks.asked.replied } in
+      let said = said_piece wires (original (origin new.wire)) (made_for old.wire) (told new.wire) asking old.part old.reader.wanted new.reader turn.ready.left.share.bytes piece (told old.wire).given old.at
       (subst (λ (p : Purpose). IsHonest wires (original (origin new.wire)) p (told new.wire)) stays honest) asks given has.keyed.reads turn.ready.at k byte here in
       subst (λ (o : O). said_of (original o) address key (old.at + k) byte) origin_is
       (subst (λ (x : Key). said_of (original (origin new.wire)) address x (old.at + k) byte) key_is

@@ -2,10 +2,12 @@ pub mod Totals
 pub mod Causes
 pub mod Saying
 pub mod Turns
+pub mod Heard
 pub mod Rounds
 pub mod Ends
 pub mod Going
 pub mod Readings
+pub mod Replies
 pub mod Asks
 pub mod Opens
 pub mod Lost

@@ -1,8 +1,8 @@
 -- What asking for the parts of a round leaves: all lanes, or a round that is given up.
-use Rattle.std.proofs.Common.{◌≡◌, ◌≢◌, inl, inr, ◌<◌, ◌≤◌, ◌==◌, ℕ, cond, List, [], ◌∷◌, ◌++◌, length, map, drop, refl, sym, ◌∙◌, ap, subst, arith, append_assoc}
+use Rattle.std.proofs.Common.{◌≡◌, ◌≢◌, inl, inr, ◌<◌, ◌≤◌, ◌==◌, ℕ, zero, suc, cond, true, List, [], ◌∷◌, ◌++◌, length, map, drop, refl, sym, ◌∙◌, ap, subst, arith, append_assoc}
 use Rattle.std.specs.Prelude.{slice_get}
 use Rattle.std.specs.List.{AllByRecursion}
-use Rattle.std.proofs.lemmas.Bool.{cases_lt}
+use Rattle.std.proofs.lemmas.Bool.{cases_lt, false≢true}
 use Rattle.std.proofs.lemmas.Bool.Decides.{eqb_tells}
 use Rattle.std.proofs.lemmas.List.{append-nil, map-append}
 use Rattle.dm_types.specs.Faults.{NoneFell}
@@ -11,6 +11,7 @@ use Rattle.dm_policy.specs.declared.cause.Cause.{Cause}
 use Rattle.dm_policy.specs.declared.cause.Cause.TheVariants as causes
 use Rattle.dm_edge.specs.declared.fault.NetFault.{NetFault}
 use Rattle.dm_edge.specs.Fair.{ask_of}
+use Rattle.dm_edge.specs.declared.wanted.Wanted.{Wanted}
 use Rattle.dm_edge.specs.Wire.{Purpose, Told, Closed}
 use Rattle.dm_request.specs.Request.{request_of}
 use Rattle.dm_ask.specs.Following.{IsStopped}
@@ -47,6 +48,10 @@ one_most a b = elim (eqb_tells a b) [
   | inr off ↦ let is = ap {B = ℕ} (λ x. cond x 1 0) off.0 in omega (arith, is)
 ]
 
+above_none : (n : ℕ) → n ≢ 0 → 0 < n
+above_none zero other = absurd (other refl)
+above_none (suc n) other = omega arith
+
 module _ {W O : Type 0} (net wires : Type 0) (made_for : W → Purpose) (told : W → Told) (origin : W → O) (there : O) (asking : Asking) (start closed : List Closed) (shares : List Share) where
   -- before the first part is asked for
   pub none_open : (lanes : List (Lane W)) → lanes ≡ [] → (net → closed ≡ start) → IsOpening net wires made_for told origin there asking start closed shares 0 lanes
@@ -54,9 +59,9 @@ module _ {W O : Type 0} (net wires : Type 0) (made_for : W → Purpose) (told : 
       (record { lanes_are = record { turns = tt; below = λ n low. absurd (omega (arith, low)); above = λ n high. refl }; still = still })
 
   -- each part was asked for
-  pub all_opened : (number : ℕ) (lanes : List (Lane W)) → length shares ≡ number → IsOpening net wires made_for told origin there asking start closed shares number lanes
+  pub all_opened : (number : ℕ) (lanes : List (Lane W)) → length shares ≡ number → (asking.served ≡ true → 0 < number) → IsOpening net wires made_for told origin there asking start closed shares number lanes
       → IsOpened net wires made_for told origin there asking start closed shares lanes
-  all_opened number lanes count opening =
+  all_opened number lanes count some opening =
       let has = opening.lanes_are in
       record {
         ready = weaker_each (IsTurn wires made_for told origin there asking shares) (IsReady wires made_for told asking.key shares) (λ lane turn. turn.ready) lanes has.turns;
@@ -68,6 +73,7 @@ module _ {W O : Type 0} (net wires : Type 0) (made_for : W → Purpose) (told : 
           each = tt;
           asks = weaker_each (IsTurn wires made_for told origin there asking shares) (LaneAsks wires made_for told asking) (λ lane turn. turn.asks) lanes has.turns;
           once = λ n short. let b = has.below n (subst (λ (m : ℕ). n < m) count short) in omega (arith, b);
+          first = λ served. subst (λ (m : ℕ). 0 < m) (sym count) (some served);
         };
       }
 
@@ -124,6 +130,7 @@ module _ (asking : Asking) (source : Source) (pass : Pass) (shares : List Share)
           purpose_is = off.purpose_is ∙ ap (purpose_of pass.id pass.attempt) at ∙ sym is.asks.purpose_is;
           sent = subst (λ (a : Address). IsFrontSent (request_of a (ask_of wanted)) off.connection.sent) (sym (ap (λ (p : Purpose). p.address) off.purpose_is)) (elim off.sent [ inl all ↦ inl all | inr cut ↦ inr cut.1 ]);
           brought = inl refl;
+          replied = λ whole. absurd (let e = whole in cc);
         })
       ]
 
@@ -145,6 +152,7 @@ tried_of net t asking shares c is = record {
   purpose_is = is.asked.purpose_is t;
   sent = inl (is.asked.sent_is t);
   brought = inr (is.brought t);
+  replied = λ whole. (is.asked.sent_is t ∙ ap (λ (w : Wanted). request_of c.connection.purpose.address (ask_of w)) whole, is.asked.replied t whole);
 }
 
 -- a round that stopped while it was read
@@ -153,6 +161,7 @@ lost_of net asking start now shares cut = record {
   wires = cut.wires;
   closed = cut.closed;
   once = λ t n short. let one = cut.once n short in omega (arith, one);
+  first = λ t served. cut.once 0 (cut.first served);
   each = λ t. weaker_each (IsCarried net asking shares) (WasTried asking shares) (tried_of net t asking shares) cut.wires cut.each;
 }
 
@@ -185,6 +194,21 @@ module _ {W O : Type 0} (net wires : Type 0) (by : net → wires) (made_for : W 
         | inr off ↦ let o = (found t).others n off.1 in let m = most_lanes n in omega (arith, sum, same, o, m)
       ]
 
+  -- the first reply's lane is one of those that were open
+  apart : asking.served ≡ true → stopped.number ≢ 0
+  apart served = elim stopped.is.asks.own [
+    | inl unserved ↦ absurd (false≢true (sym unserved ∙ served))
+    | inr other ↦ λ e. other (stopped.is.number_is ∙ e)
+  ]
+
+  first : net → asking.served ≡ true → total (is_of 0) (lost ++ carried) ≡ 1
+  first t served =
+      let sum = total_append (is_of 0) lost carried in
+      let same = counts net wires by made_for told asking shares 0 lanes in
+      let none = (found t).others 0 (apart served) in
+      let one = stopped.lanes_are.below 0 (above_none stopped.number (apart served)) in
+      omega (arith, sum, same, none, one)
+
   pub lost_round : (net → Closes made_for told between now lanes) → NoneFell until after → LosesRound net asking source pass start now before after shares stop
   lost_round closes later =
       let connection : Carried → Closed = λ (c : Carried). c.connection in
@@ -196,6 +220,7 @@ module _ {W O : Type 0} (net wires : Type 0) (by : net → wires) (made_for : W 
               ∙ ap (λ (l : List Closed). start ++ (map connection lost ++ l)) (connections net wires by made_for told asking shares lanes)
               ∙ ap (λ (l : List Closed). start ++ l) (sym (map-append connection lost carried));
           once = λ t n short. once t n;
+          first = first;
           each = λ t. append_each (WasTried asking shares) lost carried (found t).each
               (weaker_each (IsCarried net asking shares) (WasTried asking shares) (tried_of net t asking shares) carried (carried_each net wires by made_for told asking shares lanes left asks));
         };

@@ -1,5 +1,5 @@
 -- The next round of an attempt behind those that were read: it is opened, or given up.
-use Rattle.std.proofs.Common.{◌≡◌, ◌⊎◌, inl, inr, ℕ, ◌+◌, List, [], ◌∷◌, ◌++◌, length, map, Option, Result, Ok, Err, refl, sym, ◌∙◌, ap, subst, arith, append_assoc}
+use Rattle.std.proofs.Common.{◌≡◌, ◌⊎◌, inl, inr, ℕ, ◌+◌, List, [], ◌∷◌, ◌++◌, length, map, Option, true, Result, Ok, Err, refl, sym, ◌∙◌, ap, subst, arith, append_assoc}
 use Rattle.std.specs.List.{Contains}
 use Rattle.std.proofs.lemmas.List.Elements.{Contains-append_left, Contains-append_right}
 use Rattle.dm_types.specs.Faults.{NoneFell}
@@ -33,10 +33,11 @@ use Rattle.dm_rounds.specs.Parts.{StopsAsking}
 use Rattle.dm_rounds.specs.Reading.{IsKeyed, IsReading, closed_before}
 use Rattle.dm_rounds.specs.Rounding.{LostOpens, NoneOpens, RoundOpens, next_shares}
 use Rattle.dm_rounds.specs.Running.{IsRunning, later_asking}
-use Rattle.dm_rounds.specs.Trail.{AreRead, AreUsedUp, GoesFrom, IsShown, RunEnds, RunLeaves, RunStops, WasCut, asking_behind}
+use Rattle.dm_rounds.specs.Trail.{AreRead, AreUsedUp, GoesFrom, HasFirst, IsServedIn, IsShown, RunEnds, RunLeaves, RunStops, WasCut, asking_behind}
 use Rattle.dm_rounds.proofs.Asks.{none_led}
 use Rattle.dm_rounds.proofs.Causes.{counts_longer, net_apart}
 use Rattle.dm_rounds.proofs.Losing.{asking_shown, contains_here, empty_at, same_behind, shows_longer}
+use Rattle.dm_rounds.proofs.Replies.{served_more, tried_first}
 use Rattle.dm_rounds.proofs.Trails.{closed_more, from_one, from_then, read_cut}
 use Rattle.dm_rounds.proofs.Wired.{holds_wired, opened_with, wired}
 
@@ -64,7 +65,7 @@ lost_among start led between now rest wires front back c last behind closed =
     Contains-append_right front (wires ++ back) c (Contains-append_left wires back c (subst (λ (l : List Closed). Contains l c) (sym are) (contains_here led rest c)))
 
 module _ {D O : Type 0} (tells : Type 0) (clock : D → Clock) (says : O → Says) (far : D → ℕ) (counts : D → DiskKind → ℕ) (net : Type 0) (scene : Scene D O) (going : Going) (older : Trace) (first asking : Asking) (trace : Trace) (from : GoesFrom older trace) (asking_is : asking_behind first trace.rounds ≡ asking)
-    (rounds : AreRead net first trace.rounds) (lost_none : trace.lost ≡ []) where
+    (rounds : AreRead net first trace.rounds) (lost_none : trace.lost ≡ []) (begun : (trace.rounds ≡ []) ⊎ IsServedIn net first trace.rounds) where
   -- it is read
   pub next_runs : {W : Type 0} (wires : Type 0) (made_for : W → Purpose) (told : W → Told) (origin : W → O) (desk : View D O) (closed : List Closed) (there : O) (lanes : List (Lane W)) (at : ℕ) (next : Going) → next.pass ≡ going.pass → next.round ≡ length trace.rounds + 1
       → RoundOpens tells clock says far counts net wires made_for told origin scene going.pass desk closed trace asking lanes → there ≡ scene.start.origin → at ≡ scene.at
@@ -72,6 +73,7 @@ module _ {D O : Type 0} (tells : Type 0) (clock : D → Clock) (says : O → Say
   next_runs {W} wires made_for told origin desk closed there lanes at next pass_is turn opens there_is at_is = record {
     reading = subst (λ (a : Asking). IsReading tells clock says far counts net wires made_for told origin scene next desk closed trace a (cover_by scene trace) (next_shares scene trace) lanes) (sym asking_is) (opens.reading next pass_is turn);
     rounds = rounds;
+    served = begun;
     none_lost = lost_none;
     there_is = there_is;
     at_is = at_is;
@@ -86,12 +88,13 @@ module _ {D O : Type 0} (tells : Type 0) (clock : D → Clock) (says : O → Say
     used_up used (stops.Recorded reason) why = tt
 
     -- none was planned
-    pub none_stops : ((cause : Cause) → (cause ≡ causes.RangeRefused 206) × (length trace.rounds ≡ last_round) → AreUsedUp scene trace cause) → NoneOpens tells clock says far counts net scene going.pass desk closed trace stop
+    pub none_stops : IsServedIn net first trace.rounds → ((cause : Cause) → (cause ≡ causes.RangeRefused 206) × (length trace.rounds ≡ last_round) → AreUsedUp scene trace cause) → NoneOpens tells clock says far counts net scene going.pass desk closed trace stop
         → RunStops tells clock says far counts net scene going.pass desk closed before now older first stop
-    none_stops used none = record {
+    none_stops served used none = record {
       trace = trace;
       from = from;
       rounds = read_cut net first trace.rounds rounds;
+      served = served;
       stopped = record { closed_is = none.still; holds = none.holds; shown = used_up used stop none.why };
     }
 
@@ -132,12 +135,23 @@ module _ {D O : Type 0} (tells : Type 0) (clock : D → Clock) (says : O → Say
       lost_shown (stops.Fault fault) is = tt
       lost_shown (stops.Recorded reason) is = tt
 
+      -- where the first reply serves the first part, its connection is one of the rounds'
+      lost_served : IsServedIn net first lost_trace.rounds
+      lost_served =
+          let round : Round = wired (next_round scene trace asking) lost_wires in
+          served_more net first round trace.rounds begun (λ none n served.
+          let same : asking ≡ first = sym asking_is ∙ ap (asking_behind first) none in
+          let own : asking.served ≡ true = ap (λ (a : Asking). a.served) same ∙ served in
+          subst (λ (a : Asking). HasFirst a (round ∷ trace.rounds)) same
+          (tried_first asking (next_shares scene trace) round trace.rounds own (let one = lost.round.round.first n own in omega (arith, one)) (lost.round.round.each n)))
+
       -- it was planned, and given up
       pub lost_stops : RunStops tells clock says far counts net scene going.pass desk closed before now older first stop
       lost_stops = record {
         trace = lost_trace;
         from = from_then older trace lost_trace from (from_one trace lost_trace trace.saves (wired (next_round scene trace asking) lost_wires) refl);
         rounds = (sym asking_is, lost_cut net scene trace asking source going.pass (closed_before scene trace) closed between now stop lost.round, rounds);
+        served = lost_served;
         stopped = record {
           closed_is = λ n. lost.round.round.closed n ∙ closed_more scene.closed trace.led (wires_of trace.rounds) (map (λ (c : Carried). c.connection) lost_wires) trace.lost lost_none;
           holds = holds_wired tells clock says far counts scene (next_round scene trace asking) lost_wires trace going.pass desk stop lost.holds;
@@ -146,11 +160,11 @@ module _ {D O : Type 0} (tells : Type 0) (clock : D → Clock) (says : O → Say
       }
 
     -- whichever
-    pub opening_stops : (source : Source) (between : NetFault → ℕ) → NoneFell before between → ((cause : Cause) → (cause ≡ causes.RangeRefused 206) × (length trace.rounds ≡ last_round) → AreUsedUp scene trace cause)
+    pub opening_stops : IsServedIn net first trace.rounds → (source : Source) (between : NetFault → ℕ) → NoneFell before between → ((cause : Cause) → (cause ≡ causes.RangeRefused 206) × (length trace.rounds ≡ last_round) → AreUsedUp scene trace cause)
         → NoneOpens tells clock says far counts net scene going.pass desk closed trace stop ⊎ LostOpens tells clock says far counts net scene going.pass desk closed between now trace asking source stop
         → RunStops tells clock says far counts net scene going.pass desk closed before now older first stop
-    opening_stops source between earlier used (inl none) = none_stops used none
-    opening_stops source between earlier used (inr lost) = lost_stops source between earlier lost
+    opening_stops served source between earlier used (inl none) = none_stops served used none
+    opening_stops served source between earlier used (inr lost) = lost_stops source between earlier lost
 
 -- the next round asks of the same content
 pub keyed_next : {D O : Type 0} (scene : Scene D O) (pass : Pass) (first : Asking) (older trace : Trace) → GoesFrom older trace → IsKeyed pass (asking_behind first older.rounds) (told_by scene older.told) → IsKeyed pass (later_asking first) (told_by scene trace.told)
@@ -170,7 +184,7 @@ shown_longer net a b c scene trace (stops.Recorded reason) earlier shown = tt
 
 module _ {D O : Type 0} (tells : Type 0) (clock : D → Clock) (says : O → Says) (far : D → ℕ) (counts : D → DiskKind → ℕ) (net : Type 0) (scene : Scene D O) (pass : Pass) (desk : View D O) (closed : List Closed) (older mid : Trace) (first : Asking) (from : GoesFrom older mid) where
   pub ends_from : RunEnds tells clock says far counts net scene pass desk closed mid first → RunEnds tells clock says far counts net scene pass desk closed older first
-  ends_from ends = record { trace = ends.trace; from = from_then older mid ends.trace from ends.from; rounds = ends.rounds; ended = ends.ended }
+  ends_from ends = record { trace = ends.trace; from = from_then older mid ends.trace from ends.from; rounds = ends.rounds; served = ends.served; ended = ends.ended }
 
   pub stops_from : (before between now : NetFault → ℕ) → NoneFell before between → (stop : Stop) → RunStops tells clock says far counts net scene pass desk closed between now mid first stop
       → RunStops tells clock says far counts net scene pass desk closed before now older first stop
@@ -178,6 +192,7 @@ module _ {D O : Type 0} (tells : Type 0) (clock : D → Clock) (says : O → Say
     trace = stopped.trace;
     from = from_then older mid stopped.trace from stopped.from;
     rounds = stopped.rounds;
+    served = stopped.served;
     stopped = record { closed_is = stopped.stopped.closed_is; holds = stopped.stopped.holds; shown = shown_longer net before between now scene stopped.trace stop earlier stopped.stopped.shown };
   }
 

@@ -6,6 +6,7 @@ use Rattle.dm_types.specs.declared.kinds.DiskKind.{DiskKind}
 use Rattle.dm_types.specs.declared.slices.Slice.{Slice}
 use Rattle.dm_disk_model.specs.Disk.{History as Clock}
 use Rattle.dm_edge.specs.Wire.{Purpose, Told, Closed, closed_of}
+use Rattle.dm_reply.specs.Reads.{GoesOn}
 use Rattle.dm_slice.specs.declared.plan.Part.{Part}
 use Rattle.dm_kept.specs.Files.{Says}
 use Rattle.dm_store.specs.View.{View}
@@ -46,7 +47,7 @@ module _ {D O W : Type 0} (tells : Type 0) (clock : D → Clock) (says : O → S
     may_turn = record { scene = scene; older = older; asking = asking; cover = cover; shares = shares; round = reading.has; turn = turn_at }
 
     module _ (lane : Lane W) (part : lane.part ≡ was.part) (bounded : lane.bounded ≡ was.bounded) (wanted : lane.reader.wanted ≡ was.reader.wanted) (stays : made_for lane.wire ≡ made_for was.wire) (same : origin lane.wire ≡ origin was.wire)
-        (sent : wires → (told lane.wire).sent ≡ (told was.wire).sent) (desk : View D O) where
+        (sent : wires → (told lane.wire).sent ≡ (told was.wire).sent) (given : wires → GoesOn (told was.wire) (told lane.wire)) (desk : View D O) where
       own_grows : (after : List Share) → Grows lane.part.index shares after → Grows was.part.index shares after
       own_grows after grows = subst (λ (p : Part). Grows p.index shares after) part grows
 
@@ -70,7 +71,7 @@ module _ {D O W : Type 0} (tells : Type 0) (clock : D → Clock) (says : O → S
               ready = ready_set lanes k was lane within at part wires made_for told asking.key shares goes.after grows reading.few reading.ready goes.is;
               origins = own_set;
               few = few_set lanes k was lane within at part reading.few;
-              round = round_set lanes k was lane within at part net wires made_for told asking (closed_before scene older) closed shares goes.after grows known bounded wanted stays sent reading.round;
+              round = round_set lanes k was lane within at part net wires made_for told asking (closed_before scene older) closed shares goes.after grows known bounded wanted stays sent given reading.round;
             };
           }
 
@@ -90,7 +91,7 @@ module _ {D O W : Type 0} (tells : Type 0) (clock : D → Clock) (says : O → S
               origins = remove_each Own (set lanes k lane) k own_set;
               few = few_rest lanes k was lane within at part reading.few;
               round = round_close net wires by made_for told asking (closed_before scene older) closed after goes.after (set lanes k lane) k lane long (sym (get_or-set_same lanes k lane lane within)) goes.is closes
-                  (round_set lanes k was lane within at part net wires made_for told asking (closed_before scene older) closed shares goes.after grows known bounded wanted stays sent reading.round);
+                  (round_set lanes k was lane within at part net wires made_for told asking (closed_before scene older) closed shares goes.after grows known bounded wanted stays sent given reading.round);
             };
           }
 
@@ -105,7 +106,7 @@ module _ {D O W : Type 0} (tells : Type 0) (clock : D → Clock) (says : O → S
             keeps = refl;
             holds = stops.holds;
             left = set_each (IsLeft wires told shares) lanes k lane stops.left (weaker_each (IsReady wires made_for told asking.key shares) (IsLeft wires told shares) (λ l ready. ready.left) lanes reading.ready);
-            round = round_set lanes k was lane within at part net wires made_for told asking (closed_before scene older) closed shares shares still known bounded wanted stays sent reading.round;
+            round = round_set lanes k was lane within at part net wires made_for told asking (closed_before scene older) closed shares shares still known bounded wanted stays sent given reading.round;
             stops = λ t. stop_set lanes k was lane within at part told shares stop (stops.stops t);
           }
 

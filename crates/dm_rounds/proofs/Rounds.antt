@@ -15,6 +15,8 @@ use Rattle.dm_attempt.specs.Shares.{Share, Grows, total}
 use Rattle.dm_types.specs.declared.item.Key.{Key}
 use Rattle.dm_attempt.specs.Trace.{Carried}
 use Rattle.dm_rounds.specs.Lanes.{LaneStops, StopSays, IsLeft, IsReady, IsFull, IsRead, InRound, LaneAsks, is_at, is_of, left_of}
+use Rattle.dm_reply.specs.Reads.{GoesOn}
+use Rattle.dm_rounds.proofs.Heard.{reply_grown, reply_more}
 use Rattle.dm_rounds.proofs.Totals.{one_at, none_at, total_append, total_set, total_remove, total_at, set_each, remove_each, push_each, none_each, one_each, rest_each, at_each}
 use Rattle.dm_attempt.proofs.Sharing.{keeps_length}
 
@@ -124,21 +126,21 @@ module _ {W : Type 0} (lanes : List (Lane W)) (k : ℕ) (was lane : Lane W) (wit
 
   -- it asked for the same
   pub asks_same : (tells : Type 0) (made_for : W → Purpose) (told : W → Told) (asking : Asking) → lane.bounded ≡ was.bounded → lane.reader.wanted ≡ was.reader.wanted → made_for lane.wire ≡ made_for was.wire
-      → (tells → (told lane.wire).sent ≡ (told was.wire).sent) → LaneAsks tells made_for told asking was → LaneAsks tells made_for told asking lane
-  asks_same tells made_for told asking bounded wanted stays sent asks =
-      let parted : IsAsked tells asking lane.part was.reader.wanted (made_for was.wire) (told was.wire).sent =
-      subst (λ (p : Part). IsAsked tells asking p was.reader.wanted (made_for was.wire) (told was.wire).sent) (sym part) asks.asked in
-      let wants : IsAsked tells asking lane.part lane.reader.wanted (made_for was.wire) (told was.wire).sent =
-      subst (λ (w : Wanted). IsAsked tells asking lane.part w (made_for was.wire) (told was.wire).sent) (sym wanted) parted in
-      let made : IsAsked tells asking lane.part lane.reader.wanted (made_for lane.wire) (told was.wire).sent =
-      subst (λ (p : Purpose). IsAsked tells asking lane.part lane.reader.wanted p (told was.wire).sent) (sym stays) wants in
-      record { asked = record { wanted_is = made.wanted_is; first_is = made.first_is; purpose_is = made.purpose_is; sent_is = λ n. sent n ∙ made.sent_is n }; bounded_is = bounded ∙ asks.bounded_is }
+      → (tells → (told lane.wire).sent ≡ (told was.wire).sent) → (tells → GoesOn (told was.wire) (told lane.wire)) → LaneAsks tells made_for told asking was → LaneAsks tells made_for told asking lane
+  asks_same tells made_for told asking bounded wanted stays sent given asks =
+      let parted : IsAsked tells asking lane.part was.reader.wanted (made_for was.wire) (told was.wire).sent (told was.wire).given =
+      subst (λ (p : Part). IsAsked tells asking p was.reader.wanted (made_for was.wire) (told was.wire).sent (told was.wire).given) (sym part) asks.asked in
+      let wants : IsAsked tells asking lane.part lane.reader.wanted (made_for was.wire) (told was.wire).sent (told was.wire).given =
+      subst (λ (w : Wanted). IsAsked tells asking lane.part w (made_for was.wire) (told was.wire).sent (told was.wire).given) (sym wanted) parted in
+      let made : IsAsked tells asking lane.part lane.reader.wanted (made_for lane.wire) (told was.wire).sent (told was.wire).given =
+      subst (λ (p : Purpose). IsAsked tells asking lane.part lane.reader.wanted p (told was.wire).sent (told was.wire).given) (sym stays) wants in
+      record { asked = record { wanted_is = made.wanted_is; first_is = made.first_is; purpose_is = made.purpose_is; sent_is = λ n. sent n ∙ made.sent_is n; replied = λ n whole. reply_grown asking.reply (told was.wire) (told lane.wire) (given n) (made.replied n whole) }; bounded_is = bounded ∙ asks.bounded_is }
 
   -- the wires of the round stay, and the lane has the piece more
   pub round_set : (net tells : Type 0) → (made_for : W → Purpose) (told : W → Told) (asking : Asking) (start now : List Closed) (old new : List Share) → Grows was.part.index old new
-      → was.part.index < length old → lane.bounded ≡ was.bounded → lane.reader.wanted ≡ was.reader.wanted → made_for lane.wire ≡ made_for was.wire → (tells → (told lane.wire).sent ≡ (told was.wire).sent)
+      → was.part.index < length old → lane.bounded ≡ was.bounded → lane.reader.wanted ≡ was.reader.wanted → made_for lane.wire ≡ made_for was.wire → (tells → (told lane.wire).sent ≡ (told was.wire).sent) → (tells → GoesOn (told was.wire) (told lane.wire))
       → InRound net tells made_for told asking start now old lanes → InRound net tells made_for told asking start now new (set lanes k lane)
-  round_set net tells made_for told asking start now old new grows known bounded wanted stays sent round =
+  round_set net tells made_for told asking start now old new grows known bounded wanted stays sent given round =
       let long = keeps_length old new grows.keeps in
       let some = total_at (is_at was.part.index) lanes k was within in
       let none : total (is_of was.part.index) round.wires ≡ 0 = omega (arith, round.once was.part.index known, some, own) in
@@ -147,8 +149,9 @@ module _ {W : Type 0} (lanes : List (Lane W)) (k : ℕ) (was lane : Lane W) (wit
         wires = round.wires;
         closed = round.closed;
         each = none_each (is_of was.part.index) (IsRead net asking old) (IsRead net asking new) (read_other net asking was.part.index old new grows) round.wires none round.each;
-        asks = set_each Asks lanes k lane (asks_same tells made_for told asking bounded wanted stays sent (subst Asks (sym at) (at_each Asks lanes k was within round.asks))) round.asks;
+        asks = set_each Asks lanes k lane (asks_same tells made_for told asking bounded wanted stays sent given (subst Asks (sym at) (at_each Asks lanes k was within round.asks))) round.asks;
         once = λ n short. omega (arith, round.once n (omega (arith, short, long)), once_set n);
+        first = λ served. let some = round.first served in omega (arith, some, long);
       }
 
 module _ {W : Type 0} (net tells : Type 0) (by : net → tells) (made_for : W → Purpose) (told : W → Told) (key : Key) (shares : List Share) (lane : Lane W) (full : IsFull tells made_for told key shares lane) where
@@ -178,7 +181,7 @@ round_close {W} net tells by made_for told asking start now after shares lanes k
         share = full.left.share;
         share_is = full.left.share_is;
         part_is = full.left.part_is;
-        asked = let a = (subst Asks (sym at) (at_each Asks lanes k lane within round.asks)).asked in record { wanted_is = a.wanted_is; first_is = a.first_is; purpose_is = λ n. a.purpose_is (by n); sent_is = λ n. a.sent_is (by n) };
+        asked = let a = (subst Asks (sym at) (at_each Asks lanes k lane within round.asks)).asked in record { wanted_is = a.wanted_is; first_is = a.first_is; purpose_is = λ n. a.purpose_is (by n); sent_is = λ n. a.sent_is (by n); replied = λ n whole. reply_more asking.reply (told lane.wire).given (told lane.wire).left (a.replied (by n) whole) };
         brought = λ n. full.left.brought (by n);
         whole = whole_by net tells by made_for told asking.key shares lane full;
         alone = λ wanted known. alone_by net tells by made_for told asking.key shares lane full ((subst Asks (sym at) (at_each Asks lanes k lane within round.asks)).bounded_is ∙ known) wanted;
@@ -186,4 +189,5 @@ round_close {W} net tells by made_for told asking start now after shares lanes k
       });
       asks = remove_each Asks lanes k round.asks;
       once = λ n short. omega (arith, round.once n short, total_append (is_of n) round.wires (own ∷ []), total_remove (is_at n) lanes k lane within, ap (is_at n) at);
+      first = round.first;
     }

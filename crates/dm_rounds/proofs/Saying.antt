@@ -18,12 +18,12 @@ slice_right : (xs ys : List ℕ) (k : ℕ) → slice_get (xs ++ ys) (length xs +
 slice_right [] ys k = ap (λ (n : ℕ). slice_get ys n) (let e : 0 + k ≡ k = omega arith in e)
 slice_right (x ∷ xs) ys k = ap (λ (n : ℕ). slice_get (x ∷ (xs ++ ys)) n) (let e : suc (length xs) + k ≡ suc (length xs + k) = omega arith in e) ∙ slice_right xs ys k
 
-pub said_piece : (tells : Type 0) (says : Address → Key → ℕ → ℕ → Type 0) (purpose : Purpose) (told : Told) (asking : Asking) (part : Part) (wanted : Wanted) (reader : Reader) (bytes piece : List ℕ) (at : ℕ)
-    → IsHonest tells says purpose told → IsAsked tells asking part wanted purpose told.sent → (tells → HasGiven asking.key purpose wanted told.given reader (bytes ++ piece)) → IsRead asking.purpose.address.text asking.purpose.address
+pub said_piece : (tells : Type 0) (says : Address → Key → ℕ → ℕ → Type 0) (purpose : Purpose) (told : Told) (asking : Asking) (part : Part) (wanted : Wanted) (reader : Reader) (bytes piece came : List ℕ) (at : ℕ)
+    → IsHonest tells says purpose told → IsAsked tells asking part wanted purpose told.sent came → (tells → HasGiven asking.key purpose wanted told.given reader (bytes ++ piece)) → IsRead asking.purpose.address.text asking.purpose.address
     → at ≡ part.first + length bytes → (k byte : ℕ) → slice_get piece k ≡ Some byte → IsSaidOf says asking.purpose.address.text asking.key (at + k) byte
-said_piece tells says purpose told asking part wanted reader bytes piece at (inl all) asks given reads at_is k byte here =
+said_piece tells says purpose told asking part wanted reader bytes piece came at (inl all) asks given reads at_is k byte here =
     record { address = asking.purpose.address; reads = reads; said = all asking.purpose.address asking.key (at + k) byte }
-said_piece tells says purpose told asking part wanted reader bytes piece at (inr fair) asks given reads at_is k byte here =
+said_piece tells says purpose told asking part wanted reader bytes piece came at (inr fair) asks given reads at_is k byte here =
     let has = given fair.0 in
     let said = (said_by purpose told wanted has.head reader (bytes ++ piece) has.tag (inr fair) (asks.sent_is fair.0) has.has has.tag_is).each (length bytes + k) byte (slice_right bytes piece k ∙ here) in
     let first = asks.first_is in

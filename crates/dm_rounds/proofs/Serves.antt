@@ -27,6 +27,7 @@ use Rattle.dm_answers.specs.declared.answer.SlicePass.{SlicePass}
 use Rattle.dm_attempt.specs.declared.source.Source.{Source}
 use Rattle.dm_attempt.specs.Asking.{count_by, source_by}
 use Rattle.dm_attempt.specs.Ends.{empty_share}
+use Rattle.dm_attempt.specs.Heads.{SaysHead}
 use Rattle.dm_attempt.specs.Shares.{Share}
 use Rattle.dm_attempt.specs.Trace.{AreAtEnds, AreNumbered, Tale}
 use Rattle.dm_rounds.specs.declared.first.Reply.{Reply}
@@ -37,6 +38,7 @@ use Rattle.dm_rounds.specs.Reading.{IsTurn}
 use Rattle.dm_rounds.specs.Rounding.{AsksAll}
 use Rattle.dm_rounds.specs.Running.{later_asking}
 use Rattle.dm_rounds.specs.Serving.{first_lane}
+use Rattle.dm_rounds.proofs.Heard.{says_read}
 use Rattle.dm_rounds.proofs.Firsts.{first_begins, first_within, open_whole}
 use Rattle.dm_rounds.proofs.Lost.{none_open}
 use Rattle.dm_rounds.proofs.Nexts.{index_at, share_at}
@@ -92,7 +94,7 @@ some_of (Some n) is = (n, refl)
 module _ {W O : Type 0} (wires : Type 0) (made_for : W → Purpose) (told : W → Told) (origin : W → O) (there : O) (pass : Pass) (first : Address) (reply : Reply W) (tale : Tale) (part : Part) (shares : List Share)
     (replied : IsReplied pass first reply) (heard : wires → IsHeard made_for told pass reply) (same : origin reply.wire ≡ there)
     (address_is : tale.address ≡ reply.address) (key_is : tale.key ≡ reply.key) (total_is : tale.total ≡ reply.head.total)
-    (place : IsFirstPart tale.total part) (some : part.first < part.end) (empty : slice_get shares part.index ≡ Some (empty_share part)) where
+    (head_is : tale.head ≡ reply.head) (place : IsFirstPart tale.total part) (some : part.first < part.end) (empty : slice_get shares part.index ≡ Some (empty_share part)) where
   given : wires → HasGiven tale.key (made_for reply.wire) reply.reader.wanted (told reply.wire).given reply.reader []
   given t =
       let says = (heard t).says in
@@ -152,6 +154,7 @@ module _ {W O : Type 0} (wires : Type 0) (made_for : W → Purpose) (told : W �
         purpose_is = λ t. (heard t).purpose_is ∙ ap (purpose_of pass.id pass.attempt) (sym address_is);
         sent_is = λ t. (heard t).sent ∙ ap (λ (w : Wanted). request_of reply.address (ask_of w)) (sym replied.wanted_is)
             ∙ ap (λ (p : Purpose). request_of p.address (ask_of reply.reader.wanted)) (sym (heard t).purpose_is);
+        replied = λ t whole. subst (SaysHead (told reply.wire).given) (sym head_is) (says_read (told reply.wire) reply.reader reply.head replied.kind_is replied.framed.1 (heard t).says);
       };
       bounded_is = ap is_some (sym total_is);
     };

@@ -1,6 +1,6 @@
 -- The first reply is taken: its lane is the first, or nothing is to be brought.
 use Rattle.std.proofs.Common.{◌≡◌, inl, ◌<◌, ℕ, Bool, true, false, List, [], ◌∷◌, ◌++◌, length, map, Option, Some, Result, Ok, Err, refl, sym, ◌∙◌, ap, subst, arith, append_assoc}
-use Rattle.std.specs.Prelude.{slice_get}
+use Rattle.std.specs.Prelude.{IfSome, slice_get}
 use Rattle.std.proofs.lemmas.List.{append-nil}
 use Rattle.dm_types.specs.declared.address.Address.{Address}
 use Rattle.dm_types.specs.declared.item.Key.{Key}
@@ -32,12 +32,13 @@ use Rattle.dm_attempt.proofs.Rounds.{empty_parts}
 use Rattle.dm_rounds.specs.declared.first.Reply.{Reply}
 use Rattle.dm_rounds.specs.declared.lane.Lane.{Lane}
 use Rattle.dm_rounds.specs.Beginning.{HasPlanned}
-use Rattle.dm_rounds.specs.First.{FreshEnds, FreshLeaves, FreshStops, IsFreshTrace, IsLostAt, first_asking}
+use Rattle.dm_rounds.specs.First.{FreshEnds, FreshLeaves, FreshStops, IsFreshTrace, IsLostAt, IsReplyOf, first_asking}
 use Rattle.dm_rounds.specs.Opening.{IsOpening}
 use Rattle.dm_rounds.specs.Reading.{closed_before}
 use Rattle.dm_rounds.specs.Rounding.{next_shares}
 use Rattle.dm_rounds.specs.Serving.{IsFirstOpen, IsServing, first_lane}
 use Rattle.dm_rounds.specs.Trail.{AreRead, IsShown, RunLeaves}
+use Rattle.dm_rounds.proofs.Heard.{IsOwn, lost_replied, own_reply}
 use Rattle.dm_rounds.proofs.Firsts.{none_planned}
 use Rattle.dm_rounds.proofs.Anew.{fresh_ends, fresh_later, fresh_stops, told_fresh}
 use Rattle.dm_rounds.proofs.Nexts.{numbers}
@@ -46,16 +47,16 @@ use Rattle.dm_rounds.proofs.Trails.{read_cut}
 
 module _ {D O W : Type 0} (tells : Type 0) (clock : D → Clock) (says : O → Says) (far : D → ℕ) (counts : D → DiskKind → ℕ) (net wires : Type 0) (by : net → wires) (made_for : W → Purpose) (told : W → Told) (origin : W → O) (scene : Scene D O) (pass : Pass) (old desk : View D O) (closed : List Closed) (there : O) (first : Address) (handed : List ℕ) (slices : ℕ) (reply : Reply W)
     (led : List Closed) (count : ℕ) (passes : List SlicePass) (at : ℕ) (is : IsServing tells clock says far counts net wires made_for told origin scene pass old desk closed there first handed slices reply led count passes at) where
-  -- the reply's own connection was made for its address and was sent the whole request
-  pub lost_own : net → IsLostAt pass reply.address (closed_of (made_for reply.wire) (told reply.wire) ∷ [])
-  lost_own n = ((is.has.heard (by n)).purpose_is, inl (is.has.heard (by n)).sent)
+  -- the reply's own connection was made for its address, was sent the whole request, and begins with the head
+  pub lost_own : net → IsOwn pass reply.address reply.head (closed_of (made_for reply.wire) (told reply.wire))
+  lost_own n = own_reply made_for told pass first reply is.has.replied (is.has.heard (by n))
 
   module _ (lost : List Closed) where
     abbrev plan : HasPlanned tells clock says far counts scene pass old desk led lost count handed reply.head reply.address reply.key passes
     plan = is.planned lost
 
     abbrev pub tale : Tale
-    tale = tale_of reply.address plan.told plan.named.is.name
+    tale = tale_of reply.head reply.address plan.told plan.named.is.name
 
     -- what was told, with these connections left over
     abbrev pub trace : Trace
@@ -103,7 +104,7 @@ module _ {D O W : Type 0} (tells : Type 0) (clock : D → Clock) (says : O → S
     is_open lanes lanes_are = record {
       planned = planned [];
       opening = subst (λ (l : List (Lane W)). IsOpening net wires made_for told origin there (first_asking pass (tale [])) (closed_before scene (trace [])) closed (next_shares scene (trace [])) 1 l) (sym lanes_are)
-          (first_open wires made_for told origin there pass first reply (tale []) part (next_shares scene (trace [])) is.has.replied is.has.heard is.has.origin_is refl (plan []).is.key_is (plan []).is.total_is is_first ordered empty
+          (first_open wires made_for told origin there pass first reply (tale []) part (next_shares scene (trace [])) is.has.replied is.has.heard is.has.origin_is refl (plan []).is.key_is (plan []).is.total_is refl is_first ordered empty
           net (closed_before scene (trace [])) closed (λ n. is.has.closed_is n ∙ ap (λ (l : List Closed). scene.closed ++ l) (sym (append-nil led))));
       keyed = record { key_is = refl; address_is = refl; reads = is.has.reads; purpose_is = refl; source_is = refl; known_is = refl };
       told_is = refl;
@@ -123,7 +124,7 @@ module _ {D O W : Type 0} (tells : Type 0) (clock : D → Clock) (says : O → S
     source_same = ap (λ (k : Key). source_by reply.address k (plan []).told.total) (plan []).is.key_is ∙ ap (source_by reply.address reply.key) (plan []).is.total_is
 
   -- nothing is to be brought, and the reply's wire went back
-  module _ (none : passes ≡ []) (some : 0 < count) (c : Closed) (left : net → IsLostAt pass reply.address (c ∷ [])) (after : List Closed) (closes : net → after ≡ closed ++ c ∷ []) where
+  module _ (none : passes ≡ []) (some : 0 < count) (c : Closed) (own : net → IsOwn pass reply.address reply.head c) (after : List Closed) (closes : net → after ≡ closed ++ c ∷ []) where
     abbrev pub bare_trace : Trace
     bare_trace = opened (trace (c ∷ [])) (next_round scene (trace (c ∷ [])) (first_asking pass (tale (c ∷ []))))
 
@@ -142,7 +143,17 @@ module _ {D O W : Type 0} (tells : Type 0) (clock : D → Clock) (says : O → S
 
     bare_fresh : IsFreshTrace tells clock net old pass first handed slices bare_trace
     bare_fresh = fresh_later tells clock says far counts scene pass net old first handed slices (trace (c ∷ [])) bare_trace
-        (record { led_is = refl; lost_is = refl; wish_is = refl; told_is = refl; count_is = refl; newer = next_round scene (trace (c ∷ [])) (first_asking pass (tale (c ∷ []))) ∷ []; rounds_are = refl }) (inl refl) (trace_fresh (c ∷ []) left)
+        (record { led_is = refl; lost_is = refl; wish_is = refl; told_is = refl; count_is = refl; newer = next_round scene (trace (c ∷ [])) (first_asking pass (tale (c ∷ []))) ∷ []; rounds_are = refl }) (inl refl) (trace_fresh (c ∷ []) (λ n. ((own n).purpose_is, inl (own n).sent)))
+
+    -- its head was told
+    bare_replied : net → IfSome bare_trace.wish (IsReplyOf pass handed bare_trace)
+    bare_replied n = record {
+      head = reply.head;
+      address = reply.address;
+      has = lost_replied pass reply.address reply.head c bare_trace (own n) refl;
+      wish_is = (plan (c ∷ [])).is.wish_is;
+      told = record { head_is = refl; address_is = refl };
+    }
 
     bare_closed : net → after ≡ closed_before scene bare_trace
     bare_closed n = closes n ∙ ap (λ (l : List Closed). l ++ c ∷ []) (is.has.closed_is n) ∙ append_assoc scene.closed led (c ∷ [])
@@ -166,6 +177,7 @@ module _ {D O W : Type 0} (tells : Type 0) (clock : D → Clock) (says : O → S
     bare_done present true left = record {
       trace = bare_trace;
       fresh = bare_fresh;
+      replied = bare_replied;
       rounds = bare_read;
       ended = record { closed_is = bare_closed; digest = left.digest; done = record { desk = desk; live = bare_live; full = left.full; stated = left.stated; sum = left.sum }; saves = left.saves; over = left.over };
     }
@@ -176,6 +188,7 @@ module _ {D O W : Type 0} (tells : Type 0) (clock : D → Clock) (says : O → S
     bare_stopped before now present stop left = record {
       trace = bare_trace;
       fresh = bare_fresh;
+      replied = bare_replied;
       rounds = read_cut net (first_asking pass (tale (c ∷ []))) bare_trace.rounds bare_read;
       stopped = record { closed_is = bare_closed; holds = stop_held present stop left; shown = none_shown before now present stop left };
     }

@@ -1,5 +1,5 @@
 -- What a round makes of an attempt, with its connections.
-use Rattle.std.proofs.Common.{◌≡◌, inr, ◌<◌, ℕ, ◌+◌, List, [], ◌∷◌, ◌++◌, length, map, Bool, true, false, Result, Ok, Err, refl, sym, ◌∙◌, ap, subst, arith, append_assoc}
+use Rattle.std.proofs.Common.{◌≡◌, ◌⊎◌, inr, ◌<◌, ℕ, ◌+◌, List, [], ◌∷◌, ◌++◌, length, map, Bool, true, false, Result, Ok, Err, refl, sym, ◌∙◌, ap, subst, arith, append_assoc}
 use Rattle.std.specs.Prelude.{IsSome}
 use Rattle.std.specs.List.{AllByRecursion}
 use Rattle.std.proofs.lemmas.List.{append-nil}
@@ -27,8 +27,9 @@ use Rattle.dm_rounds.specs.Lanes.{IsCarried, IsRead, NetCounts, SomeBroke, is_of
 use Rattle.dm_rounds.specs.Opened.{WasTried}
 use Rattle.dm_rounds.specs.Reading.{IsKeyed, RoundGoes, RoundStops, closed_before, live_round}
 use Rattle.dm_rounds.specs.Running.{ReadsOne}
-use Rattle.dm_rounds.specs.Trail.{AreCut, AreRead, ContentShows, GoesFrom, IsShown, RunStops, WasCut, asking_behind}
+use Rattle.dm_rounds.specs.Trail.{AreCut, AreRead, ContentShows, GoesFrom, HasFirst, IsServedIn, IsShown, RunStops, WasCut, asking_behind}
 use Rattle.dm_rounds.proofs.Lost.{tried_of}
+use Rattle.dm_rounds.proofs.Replies.{served_more, tried_first}
 use Rattle.dm_rounds.proofs.Totals.{weaker_each}
 use Rattle.dm_rounds.proofs.Wired.{holds_wired, live_wired, opened_with, wired}
 
@@ -73,7 +74,7 @@ from_then a b c early late = record {
 }
 
 module _ {D O : Type 0} (tells : Type 0) (clock : D → Clock) (says : O → Says) (far : D → ℕ) (counts : D → DiskKind → ℕ) (net : Type 0) (scene : Scene D O) (going : Going) (older : Trace) (first : Asking) (shares : List Share)
-    (none_lost : older.lost ≡ []) (rounds : AreRead net first older.rounds) (turn : going.round ≡ length older.rounds + 1) where
+    (none_lost : older.lost ≡ []) (rounds : AreRead net first older.rounds) (begun : (older.rounds ≡ []) ⊎ IsServedIn net first older.rounds) (turn : going.round ≡ length older.rounds + 1) where
   abbrev pub asking : Asking
   asking = asking_behind first older.rounds
 
@@ -89,6 +90,17 @@ module _ {D O : Type 0} (tells : Type 0) (clock : D → Clock) (says : O → Say
   closed_of_trace saves after wires closed is n =
       is n ∙ closed_more scene.closed older.led (wires_of older.rounds) (map (λ (c : Carried). c.connection) wires) older.lost none_lost
 
+  -- where the first reply serves the first part, its connection is one of the rounds' then
+  served_by : (after : List Share) (wires : List Carried) → ((n : ℕ) → n < length after → total (is_of n) wires ≡ 1) → (asking.served ≡ true → 0 < length after) → AllByRecursion (IsCarried net asking after) wires
+      → IsServedIn net first (wired (live_round asking cover after) wires ∷ older.rounds)
+  served_by after wires once some each =
+      let round : Round = wired (live_round asking cover after) wires in
+      served_more net first round older.rounds begun (λ none n served.
+      let same : asking ≡ first = ap (asking_behind first) none in
+      let own : asking.served ≡ true = ap (λ (a : Asking). a.served) same ∙ served in
+      subst (λ (a : Asking). HasFirst a (round ∷ older.rounds)) same
+      (tried_first asking after round older.rounds own (let one = once 0 (some own) in omega (arith, one)) (weaker_each (IsCarried net asking after) (WasTried asking after) (tried_of net n asking after) wires each)))
+
   module _ (desk : View D O) (closed : List Closed) (goes : RoundGoes tells clock says far counts net scene going desk closed older asking cover shares) where
     abbrev pub read_trace : Trace
     read_trace = trace_of goes.saves goes.after goes.round.wires
@@ -98,6 +110,10 @@ module _ {D O : Type 0} (tells : Type 0) (clock : D → Clock) (says : O → Say
 
     pub read_rounds : AreRead net first read_trace.rounds
     read_rounds = (refl, record { once = goes.round.once; all = goes.round.all }, rounds)
+
+    read_served : IsServedIn net first read_trace.rounds
+    read_served = served_by goes.after goes.round.wires goes.round.once goes.round.first
+        (weaker_each (IsRead net asking goes.after) (IsCarried net asking goes.after) (carried_read net asking goes.after) goes.round.wires goes.round.all)
 
     pub read_closed : net → closed ≡ closed_before scene read_trace
     read_closed = closed_of_trace goes.saves goes.after goes.round.wires closed goes.round.closed
@@ -124,6 +140,7 @@ module _ {D O : Type 0} (tells : Type 0) (clock : D → Clock) (says : O → Say
       trace = read_trace;
       from = read_from;
       rounds = read_rounds;
+      served = read_served;
       ended = record {
         closed_is = read_closed;
         digest = left.digest;
@@ -133,11 +150,12 @@ module _ {D O : Type 0} (tells : Type 0) (clock : D → Clock) (says : O → Say
       };
     }
     reads_one before now after (Ok false) left =
-        record { trace = read_trace; from = read_from; turn_is = omega (arith, turn); asking_is = refl; rounds = read_rounds; closed_is = read_closed; live = left.1; place = left.0.0; missing = left.0.1 }
+        record { trace = read_trace; from = read_from; turn_is = omega (arith, turn); asking_is = refl; rounds = read_rounds; served = read_served; closed_is = read_closed; live = left.1; place = left.0.0; missing = left.0.1 }
     reads_one before now after (Err stop) left = record {
       trace = read_trace;
       from = read_from;
       rounds = read_cut net first read_trace.rounds read_rounds;
+      served = read_served;
       stopped = record { closed_is = read_closed; holds = stop_held after stop left; shown = none_shown before now after stop left };
     }
 
@@ -159,6 +177,7 @@ module _ {D O : Type 0} (tells : Type 0) (clock : D → Clock) (says : O → Say
         trace = trace;
         from = from_one older trace stopped.saves round refl;
         rounds = (refl, cut_of net round stopped.round.once stopped.round.each, rounds);
+        served = served_by stopped.after stopped.round.wires stopped.round.once stopped.round.first stopped.round.each;
         stopped = record {
           closed_is = closed_of_trace stopped.saves stopped.after stopped.round.wires closed stopped.round.closed;
           holds = holds_wired tells clock says far counts scene (live_round asking cover stopped.after) stopped.round.wires (with_saves older stopped.saves) going.pass desk stop stopped.holds;

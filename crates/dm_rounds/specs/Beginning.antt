@@ -25,7 +25,7 @@ use Rattle.dm_rounds.specs.Telling.{IsToldOf}
 pub record HasTold {D O : Type 0} (tells : Type 0) (clock : D → Clock) (says : O → Says) (far : D → ℕ) (counts : D → DiskKind → ℕ) (scene : Scene D O) (pass : Pass) (old new : View D O) (led lost : List Closed) (count : ℕ) (handed : List ℕ) (head : Head) (address : Address) (key : Key) : Type 0 where
   pub told : Told
   pub is : IsToldOf handed head address key told
-  pub named : WithNames tells clock old (IsNamedBy tells clock says far counts scene pass new led lost count told address)
+  pub named : WithNames tells clock old (IsNamedBy tells clock says far counts scene pass new led lost count head told address)
 
 -- nothing was told yet, or there is the wish that the head gives
 abbrev pub IsBefore : List Closed → List Closed → ℕ → List ℕ → Head → Address → Key → Trace → Type 0
@@ -43,27 +43,27 @@ TellLeaves tells clock says far counts scene pass old new led lost count handed 
 TellLeaves tells clock says far counts scene pass old new led lost count handed head address key (Err stop) = NotTold tells clock says far counts scene pass new led lost count handed head address key stop
 
 -- it was told, with this name, and the first round is planned
-pub record IsPlannedAs {D O : Type 0} (tells : Type 0) (clock : D → Clock) (says : O → Says) (far : D → ℕ) (counts : D → DiskKind → ℕ) (scene : Scene D O) (pass : Pass) (new : View D O) (led lost : List Closed) (count : ℕ) (told : Told) (address : Address) (passes : List SlicePass) (taken : List (List ℕ)) : Type 0 where
+pub record IsPlannedAs {D O : Type 0} (tells : Type 0) (clock : D → Clock) (says : O → Says) (far : D → ℕ) (counts : D → DiskKind → ℕ) (scene : Scene D O) (pass : Pass) (new : View D O) (led lost : List Closed) (count : ℕ) (head : Head) (told : Told) (address : Address) (passes : List SlicePass) (taken : List (List ℕ)) : Type 0 where
   pub name : List ℕ
   pub free : IsFirstFree told.wish taken name
-  pub planned : PlanLeaves tells clock says far counts scene pass new (told_with led lost count told.wish (tale_of address told name)) (first_asking pass (tale_of address told name)) (Ok passes)
+  pub planned : PlanLeaves tells clock says far counts scene pass new (told_with led lost count told.wish (tale_of head address told name)) (first_asking pass (tale_of head address told name)) (Ok passes)
 
 pub record HasPlanned {D O : Type 0} (tells : Type 0) (clock : D → Clock) (says : O → Says) (far : D → ℕ) (counts : D → DiskKind → ℕ) (scene : Scene D O) (pass : Pass) (old new : View D O) (led lost : List Closed) (count : ℕ) (handed : List ℕ) (head : Head) (address : Address) (key : Key) (passes : List SlicePass) : Type 0 where
   pub told : Told
   pub is : IsToldOf handed head address key told
-  pub named : WithNames tells clock old (IsPlannedAs tells clock says far counts scene pass new led lost count told address passes)
+  pub named : WithNames tells clock old (IsPlannedAs tells clock says far counts scene pass new led lost count head told address passes)
 
 -- the first free form of the wish, and memory was wanting for the plan
-pub record IsNamedAs (led lost : List Closed) (count : ℕ) (told : Told) (address : Address) (trace : Trace) (taken : List (List ℕ)) : Type 0 where
+pub record IsNamedAs (led lost : List Closed) (count : ℕ) (head : Head) (told : Told) (address : Address) (trace : Trace) (taken : List (List ℕ)) : Type 0 where
   pub name : List ℕ
   pub free : IsFirstFree told.wish taken name
-  pub trace_is : trace ≡ told_with led lost count told.wish (tale_of address told name)
+  pub trace_is : trace ≡ told_with led lost count told.wish (tale_of head address told name)
 
 -- no round was planned: the head wasn't told, or it was
 pub record NotPlanned {D O : Type 0} (tells : Type 0) (clock : D → Clock) (says : O → Says) (far : D → ℕ) (counts : D → DiskKind → ℕ) (scene : Scene D O) (pass : Pass) (old new : View D O) (led lost : List Closed) (count : ℕ) (handed : List ℕ) (head : Head) (address : Address) (key : Key) (stop : Stop) : Type 0 where
   pub trace : Trace
   pub before : IsBefore led lost count handed head address key trace
-      ⊎ ((told : Told) × IsToldOf handed head address key told × WithNames tells clock old (IsNamedAs led lost count told address trace))
+      ⊎ ((told : Told) × IsToldOf handed head address key told × WithNames tells clock old (IsNamedAs led lost count head told address trace))
   pub apart : IsOfDesk stop
   pub holds : StopHolds tells clock says far counts scene pass new trace stop
 

@@ -23,6 +23,7 @@ use Rattle.dm_attempt.specs.declared.stop.Stop.{Stop}
 use Rattle.dm_attempt.specs.declared.stop.Stop.TheVariants as stops
 use Rattle.dm_attempt.specs.Asking.{Asking, count_by, source_by}
 use Rattle.dm_attempt.specs.Live.{LiveDesk}
+use Rattle.dm_attempt.specs.Replied.{HasReplied}
 use Rattle.dm_attempt.specs.Scene.{Scene, begun_by}
 use Rattle.dm_attempt.specs.Trace.{Round, Tale, Trace, untold, wires_of}
 use Rattle.dm_rounds.specs.declared.first.Reply.{Reply}
@@ -74,19 +75,18 @@ pub record IsWished (handed wish : List ℕ) : Type 0 where
   pub address : Address
   pub is : IsWishOf handed head.disposition address.target wish
 
--- What a head tells of the file, of a content that the told address brought, to which the connections led: its key, total and Last-Modified; how many parts are
--- asked for; and the first free form of the wish among the names that stood.
+-- What the told head tells of the file, of a content that the told address brought, to which the connections led: its key, total and Last-Modified; how many parts
+-- are asked for; and the first free form of the wish among the names that stood.
 pub record IsTold {D O : Type 0} (tells : Type 0) (clock : D → Clock) (net : Type 0) (old : View D O) (pass : Pass) (first : Address) (handed : List ℕ) (slices : ℕ) (trace : Trace) (tale : Tale) : Type 0 where
-  pub head : Head
   pub wish : List ℕ
   pub wish_is : trace.wish ≡ Some wish
-  pub by : IsWishOf handed head.disposition tale.address.target wish
+  pub by : IsWishOf handed tale.head.disposition tale.address.target wish
   pub named : WithNames tells clock old (λ taken. IsFirstFree wish taken tale.name)
-  pub key_is : tale.key ≡ key_of (purpose_of pass.id pass.attempt tale.address) head.strong
-  pub total_is : tale.total ≡ head.total
+  pub key_is : tale.key ≡ key_of (purpose_of pass.id pass.attempt tale.address) tale.head.strong
+  pub total_is : tale.total ≡ tale.head.total
   pub small : IfSome tale.total (λ bytes. bytes ≤ 2 ^ 40)
-  pub modified_is : tale.modified ≡ head.modified
-  pub count_is : trace.count ≡ count_by slices head.strong head.total head.ranges
+  pub modified_is : tale.modified ≡ tale.head.modified
+  pub count_is : trace.count ≡ count_by slices tale.head.strong tale.head.total tale.head.ranges
   pub reads : IsRead tale.address.text tale.address
   pub leads : net → Led (purpose_of pass.id pass.attempt) first trace.led tale.address
 
@@ -106,6 +106,7 @@ first_asking pass tale = record {
   purpose = purpose_of pass.id pass.attempt tale.address;
   key = tale.key;
   known = is_some tale.total;
+  reply = Some tale.head;
 }
 
 -- before anything was told there is no round
@@ -113,10 +114,24 @@ abbrev pub ToldRounds : (Asking → List Round → Type 0) → Pass → Option T
 ToldRounds P pass None rounds = rounds ≡ []
 ToldRounds P pass (Some tale) rounds = P (first_asking pass tale) rounds
 
+-- this was told
+pub record IsTaleOf (head : Head) (address : Address) (tale : Tale) : Type 0 where
+  pub head_is : tale.head ≡ head
+  pub address_is : tale.address ≡ address
+
+-- The wish for a name is that of the head of the first reply, which one of the attempt's connections had, at its address. Where something was told, that head was.
+pub record IsReplyOf (pass : Pass) (handed : List ℕ) (trace : Trace) (wish : List ℕ) : Type 0 where
+  pub head : Head
+  pub address : Address
+  pub has : HasReplied (purpose_of pass.id pass.attempt address) trace head
+  pub wish_is : IsWishOf handed head.disposition address.target wish
+  pub told : IfSome trace.told (IsTaleOf head address)
+
 -- the attempt brought all, and is over
 pub record FreshEnds {D O : Type 0} (tells : Type 0) (clock : D → Clock) (says : O → Says) (far : D → ℕ) (counts : D → DiskKind → ℕ) (net : Type 0) (scene : Scene D O) (pass : Pass) (old present : View D O) (closed : List Closed) (first : Address) (handed : List ℕ) (slices : ℕ) : Type 0 where
   pub trace : Trace
   pub fresh : IsFreshTrace tells clock net old pass first handed slices trace
+  pub replied : net → IfSome trace.wish (IsReplyOf pass handed trace)
   pub rounds : ToldRounds (AreRead net) pass trace.told trace.rounds
   pub ended : HasEnded tells clock says far counts net scene pass present closed trace
 
@@ -124,6 +139,7 @@ pub record FreshEnds {D O : Type 0} (tells : Type 0) (clock : D → Clock) (says
 pub record FreshStops {D O : Type 0} (tells : Type 0) (clock : D → Clock) (says : O → Says) (far : D → ℕ) (counts : D → DiskKind → ℕ) (net : Type 0) (scene : Scene D O) (pass : Pass) (old present : View D O) (closed : List Closed) (before after : NetFault → ℕ) (first : Address) (handed : List ℕ) (slices : ℕ) (stop : Stop) : Type 0 where
   pub trace : Trace
   pub fresh : IsFreshTrace tells clock net old pass first handed slices trace
+  pub replied : net → IfSome trace.wish (IsReplyOf pass handed trace)
   pub rounds : ToldRounds (AreCut net) pass trace.told trace.rounds
   pub stopped : HasStopped tells clock says far counts net scene pass present closed before after trace stop
 

@@ -166,12 +166,12 @@ pub record SomeShows {W : Type 0} (counts : W → WireFault → ℕ) (lanes : Li
 
 -- a connection asked for its part, whose end is known just where the content's length is
 pub record LaneAsks {W : Type 0} (tells : Type 0) (made_for : W → Purpose) (told : W → Told) (asking : Asking) (lane : Lane W) : Type 0 where
-  pub asked : IsAsked tells asking lane.part lane.reader.wanted (made_for lane.wire) (told lane.wire).sent
+  pub asked : IsAsked tells asking lane.part lane.reader.wanted (made_for lane.wire) (told lane.wire).sent (told lane.wire).given
   pub bounded_is : lane.bounded ≡ asking.known
 
 -- a closed connection asked for its part
 abbrev pub WasAsked : Type 0 → Asking → Carried → Type 0
-WasAsked net asking c = IsAsked net asking c.part c.wanted c.connection.purpose c.connection.sent
+WasAsked net asking c = IsAsked net asking c.part c.wanted c.connection.purpose c.connection.sent c.connection.stream
 
 -- Its part was landed whole from it, under the content's key: to its end, or to the stream's. To the part's end where a whole reply of known length brought it.
 pub record IsRead (net : Type 0) (asking : Asking) (shares : List Share) (c : Carried) : Type 0 where
@@ -195,13 +195,14 @@ is_of n c = cond (c.part.index == n) 1 0
 abbrev pub left_of : {W : Type 0} → List (Lane W) → ℕ
 left_of lanes = total (λ lane. 1 + (lane.part.end - lane.at)) lanes
 
--- Each part has a lane, or a connection that is closed and brought it whole. Nothing else was closed.
+-- Each part has a lane, or a connection that is closed and brought it whole. Nothing else was closed. Where the first reply serves the first part, there are parts.
 pub record InRound {W : Type 0} (net tells : Type 0) (made_for : W → Purpose) (told : W → Told) (asking : Asking) (start now : List Closed) (shares : List Share) (lanes : List (Lane W)) : Type 0 where
   pub wires : List Carried
   pub closed : net → now ≡ start ++ map (λ (c : Carried). c.connection) wires
   pub each : AllByRecursion (IsRead net asking shares) wires
   pub asks : AllByRecursion (LaneAsks tells made_for told asking) lanes
   pub once : (n : ℕ) → n < length shares → total (is_of n) wires + total (is_at n) lanes ≡ 1
+  pub first : asking.served ≡ true → 0 < length shares
 
 -- the lanes' connections, in their order
 abbrev pub closed_lanes : {W : Type 0} → (W → Purpose) → (W → Told) → List (Lane W) → List Closed
@@ -224,6 +225,7 @@ pub record IsWholeRound (net : Type 0) (asking : Asking) (start now : List Close
   pub wires : List Carried
   pub closed : net → now ≡ start ++ map (λ (c : Carried). c.connection) wires
   pub once : (n : ℕ) → n < length shares → total (is_of n) wires ≡ 1
+  pub first : asking.served ≡ true → 0 < length shares
   pub all : AllByRecursion (IsRead net asking shares) wires
   pub each : (n : ℕ) (share : Share) → slice_get shares n ≡ Some share → IsBroughtBy net asking wires n share
 
@@ -240,6 +242,7 @@ pub record IsCutRound (net : Type 0) (asking : Asking) (start now : List Closed)
   pub wires : List Carried
   pub closed : net → now ≡ start ++ map (λ (c : Carried). c.connection) wires
   pub once : (n : ℕ) → n < length shares → total (is_of n) wires ≡ 1
+  pub first : asking.served ≡ true → 0 < length shares
   pub each : AllByRecursion (IsCarried net asking shares) wires
 
 -- one of the connections was sent its whole request, and has this cause behind what was landed of its part

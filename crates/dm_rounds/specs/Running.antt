@@ -1,5 +1,5 @@
 -- One round of an attempt behind another.
-use Rattle.std.specs.Prelude.{◌≡◌, ◌≢◌, ℕ, ◌+◌, Bool, true, false, List, [], length, Result, Ok, Err}
+use Rattle.std.specs.Prelude.{◌≡◌, ◌≢◌, ◌⊎◌, ℕ, ◌+◌, Bool, true, false, List, [], length, Result, Ok, Err}
 use Rattle.dm_types.specs.declared.kinds.DiskKind.{DiskKind}
 use Rattle.dm_disk_model.specs.Disk.{History as Clock}
 use Rattle.dm_edge.specs.declared.fault.NetFault.{NetFault}
@@ -20,17 +20,19 @@ use Rattle.dm_attempt.specs.Trace.{Trace}
 use Rattle.dm_rounds.specs.declared.lane.Lane.{Lane}
 use Rattle.dm_rounds.specs.Reading.{IsReading, closed_before}
 use Rattle.dm_rounds.specs.Rounding.{AsksAll}
-use Rattle.dm_rounds.specs.Trail.{AreRead, GoesFrom, RunEnds, RunStops, asking_behind}
+use Rattle.dm_rounds.specs.Trail.{AreRead, GoesFrom, IsServedIn, RunEnds, RunStops, asking_behind}
 
 -- how the rounds ask behind the oldest one
 abbrev pub later_asking : Asking → Asking
 later_asking first = record first { served = false }
 
--- A round is read behind others, which were all read whole, and asks as it is to behind them. No connection of the attempt belongs to no round.
+-- A round is read behind others, which were all read whole, and asks as it is to behind them. No connection of the attempt belongs to no round. Where there are others,
+-- the first reply's connection is one of theirs, if it serves a part.
 pub record IsRunning {D O W : Type 0} (tells : Type 0) (clock : D → Clock) (says : O → Says) (far : D → ℕ) (counts : D → DiskKind → ℕ) (net wires : Type 0) (made_for : W → Purpose) (told : W → Told) (origin : W → O) (scene : Scene D O) (going : Going) (desk : View D O) (closed : List Closed) (there : O)
     (older : Trace) (first : Asking) (shares : List Share) (lanes : List (Lane W)) (at : ℕ) : Type 0 where
   pub reading : IsReading tells clock says far counts net wires made_for told origin scene going desk closed older (asking_behind first older.rounds) (cover_by scene older) shares lanes
   pub rounds : AreRead net first older.rounds
+  pub served : (older.rounds ≡ []) ⊎ IsServedIn net first older.rounds
   pub none_lost : older.lost ≡ []
   pub there_is : there ≡ scene.start.origin
   pub at_is : at ≡ scene.at
@@ -50,6 +52,7 @@ pub record IsShort {D O : Type 0} (tells : Type 0) (clock : D → Clock) (says :
   pub turn_is : length trace.rounds ≡ going.round
   pub asking_is : asking_behind first trace.rounds ≡ later_asking first
   pub rounds : AreRead net first trace.rounds
+  pub served : IsServedIn net first trace.rounds
   pub closed_is : net → closed ≡ closed_before scene trace
   pub live : LiveDesk tells clock says far counts scene going.pass desk trace
   pub place : ℕ

@@ -1,5 +1,5 @@
 -- All rounds of an attempt: how they ask, which connections they had, and how one more attempt of them stops.
-use Rattle.std.specs.Prelude.{◌≡◌, ◌⊎◌, ◌<◌, ◌≤◌, ℕ, List, [], ◌∷◌, ◌++◌, length, slice_get, Some, true, false, Result, Ok, Err, IfSome, IsTrue}
+use Rattle.std.specs.Prelude.{◌≡◌, ◌⊎◌, ◌<◌, ◌≤◌, ℕ, List, [], ◌∷◌, ◌++◌, length, slice_get, Some, None, true, false, Result, Ok, Err, IfSome, IsTrue}
 use Rattle.std.specs.List.{AllByRecursion, Contains}
 use Rattle.dm_types.specs.Faults.{Rose}
 use Rattle.dm_types.specs.declared.item.Key.TheVariants.{Strong}
@@ -28,11 +28,12 @@ use Rattle.dm_attempt.specs.declared.source.Source.{Source}
 use Rattle.dm_attempt.specs.declared.stop.Stop.{Stop}
 use Rattle.dm_attempt.specs.Asking.{Asking, IsRangeOf}
 use Rattle.dm_attempt.specs.Ending.{IfBroke, StopHolds}
+use Rattle.dm_attempt.specs.Heads.{SaysReply}
 use Rattle.dm_attempt.specs.Live.{DeskOver, LiveDesk}
 use Rattle.dm_attempt.specs.Scene.{Scene, begun_by, cover_by}
 use Rattle.dm_attempt.specs.Shares.{Share, total}
 use Rattle.dm_attempt.specs.Shows.{DeskDone, total_by}
-use Rattle.dm_attempt.specs.Trace.{Done, Round, Trace, connections_of, untold, with_saves}
+use Rattle.dm_attempt.specs.Trace.{Done, Round, Trace, connections_of, untold, wires_of, with_saves}
 use Rattle.dm_rounds.specs.Lanes.{IsRead, SomeBroke, is_net_cause, is_of}
 use Rattle.dm_rounds.specs.Opened.{WasTried}
 use Rattle.dm_rounds.specs.Reading.{IsKeyed, closed_before}
@@ -127,11 +128,24 @@ pub record HasStopped {D O : Type 0} (tells : Type 0) (clock : D → Clock) (say
   pub holds : StopHolds tells clock says far counts scene pass present trace stop
   pub shown : IfBroke stop (IsShown net before after scene trace)
 
+-- One of the rounds' connections is that of the first reply: it was made for the rounds, was sent the whole request without a range, and its stream begins with that head.
+pub record HasFirst (first : Asking) (rounds : List Round) : Type 0 where
+  pub connection : Closed
+  pub among : Contains (wires_of rounds) connection
+  pub purpose_is : connection.purpose ≡ first.purpose
+  pub sent : connection.sent ≡ request_of connection.purpose.address None
+  pub says : SaysReply first.reply connection.stream
+
+-- where the first reply serves a part, its connection is one of the rounds'
+abbrev pub IsServedIn : Type 0 → Asking → List Round → Type 0
+IsServedIn net first rounds = net → first.served ≡ true → HasFirst first rounds
+
 -- further rounds of an attempt brought all
 pub record RunEnds {D O : Type 0} (tells : Type 0) (clock : D → Clock) (says : O → Says) (far : D → ℕ) (counts : D → DiskKind → ℕ) (net : Type 0) (scene : Scene D O) (pass : Pass) (present : View D O) (closed : List Closed) (older : Trace) (first : Asking) : Type 0 where
   pub trace : Trace
   pub from : GoesFrom older trace
   pub rounds : AreRead net first trace.rounds
+  pub served : IsServedIn net first trace.rounds
   pub ended : HasEnded tells clock says far counts net scene pass present closed trace
 
 -- one of them stopped it
@@ -139,6 +153,7 @@ pub record RunStops {D O : Type 0} (tells : Type 0) (clock : D → Clock) (says 
   pub trace : Trace
   pub from : GoesFrom older trace
   pub rounds : AreCut net first trace.rounds
+  pub served : IsServedIn net first trace.rounds
   pub stopped : HasStopped tells clock says far counts net scene pass present closed before after trace stop
 
 abbrev pub RunLeaves : {D O : Type 0} → Type 0 → (D → Clock) → (O → Says) → (D → ℕ) → (D → DiskKind → ℕ) → Type 0 → Scene D O → Pass → View D O → List Closed → (NetFault → ℕ) → (NetFault → ℕ) → Trace → Asking → Result (Unit {0}) Stop → Type 0
@@ -147,7 +162,7 @@ RunLeaves tells clock says far counts net scene pass present closed before after
 
 -- how an attempt asks that goes on with what was saved of a content: for all parts by their ranges, of this source
 abbrev pub kept_asking : Pass → Source → Asking
-kept_asking pass source = record { served = false; source = Some source; purpose = purpose_of pass.id pass.attempt source.address; key = Strong source.tag; known = true }
+kept_asking pass source = record { served = false; source = Some source; purpose = purpose_of pass.id pass.attempt source.address; key = Strong source.tag; known = true; reply = None }
 
 -- The attempt has just begun, and goes on with what was saved of the source's content.
 pub record IsKeptStart {D O : Type 0} (tells : Type 0) (clock : D → Clock) (says : O → Says) (far : D → ℕ) (counts : D → DiskKind → ℕ) (net : Type 0) (scene : Scene D O) (pass : Pass) (desk : View D O) (closed : List Closed) (there : O) (source : Source) (n at : ℕ) : Type 0 where

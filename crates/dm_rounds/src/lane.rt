@@ -4,6 +4,7 @@ ghost use Rattle.dm_types.specs.declared.slices.Slice.{Slice};
 ghost use Rattle.dm_edge.specs.Causes.{is_content_cause};
 ghost use Rattle.dm_reply.specs.Content.{EndsAll};
 ghost use Rattle.dm_reply.specs.Faults.{cause_kind};
+ghost use Rattle.dm_reply.specs.Reads.{GoesOn as GivesOn};
 ghost use Rattle.dm_store.specs.Origin.{said_of};
 ghost use Rattle.dm_answers.specs.Broke.{IsMet};
 ghost use Rattle.dm_attempt.specs.Asking.{Asking};
@@ -95,6 +96,7 @@ pub fn next_piece<W: Wire>(lane: &mut Lane<W>, buffer: &mut [u8]) -> Result<Got,
     ensures stays { W.purpose lane.new.wire ≡ W.purpose lane.old.wire }
     ensures origin { W.origin lane.new.wire ≡ W.origin lane.old.wire }
     ensures sent { W.tells → (W.told lane.new.wire).sent ≡ (W.told lane.old.wire).sent }
+    ensures given { W.tells → GivesOn (W.told lane.old.wire) (W.told lane.new.wire) }
     ensures own { IfErr result (λ broke. IsTrue (is_content_cause broke)) }
     ensures shown { IfErr result (λ broke. ShownOn W.faults lane.new (stop_met broke)) }
 {
@@ -144,6 +146,7 @@ pub fn turn_of<S: Desk, W: Wire<O = S::O>>(
     ensures stays { W.purpose lane.new.wire ≡ W.purpose lane.old.wire }
     ensures origin { W.origin lane.new.wire ≡ W.origin lane.old.wire }
     ensures sent { W.tells → (W.told lane.new.wire).sent ≡ (W.told lane.old.wire).sent }
+    ensures given { W.tells → GivesOn (W.told lane.old.wire) (W.told lane.new.wire) }
     ensures met { IfErr result (λ stop. IfBroke stop IsMet) }
     ensures own { IfErr result IsOfContent }
     ensures shown { IfErr result (ShownOn W.faults lane.new) }

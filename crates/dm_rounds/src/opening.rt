@@ -1,4 +1,4 @@
-ghost use Rattle.std.specs.Prelude.{◌≡◌, ◌<◌, ◌≤◌, ◌+◌, ℕ, List, [], length, vec_len, vec_capacity, slice_index_or, IfErr, OnOk};
+ghost use Rattle.std.specs.Prelude.{◌≡◌, ◌<◌, ◌≤◌, ◌+◌, ℕ, List, [], length, vec_len, vec_capacity, slice_index_or, false, IfErr, OnOk};
 ghost use Rattle.dm_types.specs.Faults.{NoneFell};
 ghost use Rattle.dm_edge.specs.Wire.{Closed};
 ghost use Rattle.dm_answers.specs.Broke.{IsMet};
@@ -76,7 +76,7 @@ pub fn open_parts<N: Net>(
     requires none { lanes.old.items ≡ [] }
     requires room { length plan.now ≤ vec_capacity lanes.old }
     requires ordered { (k : ℕ) (d : ASlice) → k < length plan.now → (slice_index_or plan.now k d).first < (slice_index_or plan.now k d).end }
-    ensures opened { OnOk result ((asking : Asking) (shares : List Share) (start : List Closed) → AreAsked asking source.now pass.now shares 0 plan.now → length shares ≡ length plan.now
+    ensures opened { OnOk result ((asking : Asking) (shares : List Share) (start : List Closed) → asking.served ≡ false → AreAsked asking source.now pass.now shares 0 plan.now → length shares ≡ length plan.now
         → (N.tells → N.closed net.old ≡ start)
         → IsOpened N.tells N.W.tells N.W.purpose N.W.told N.W.origin (N.origin_of net.old) asking start (N.closed net.new) shares lanes.new.items) }
     ensures stopped { IfErr result (λ stop. (asking : Asking) (shares : List Share) (start : List Closed) → AreAsked asking source.now pass.now shares 0 plan.now

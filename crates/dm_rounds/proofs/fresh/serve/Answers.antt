@@ -1,4 +1,4 @@
-use Rattle.std.proofs.Common.{◌≡◌, ◌∙◌, vec_len, ◌≤◌, ◌<◌, ℕ, ◌∷◌, List, [], length, get_or, inl, sym, subst, arith}
+use Rattle.std.proofs.Common.{◌≡◌, ◌∙◌, vec_len, ◌≤◌, ◌<◌, ℕ, ◌∷◌, List, [], length, get_or, sym, subst, arith}
 use Rattle.dm_types.specs.declared.item.Limits.{Limits}
 use Rattle.dm_store.specs.Origin.{said_of}
 use Rattle.dm_edge.specs.Wire.{closed_of}
@@ -6,6 +6,7 @@ use Rattle.dm_answers.specs.declared.answer.SlicePass.{SlicePass}
 use Rattle.dm_rounds.specs.Beginning.{HasPlanned}
 use Rattle.dm_rounds.specs.Serving.{IsServing}
 use Rattle.dm_rounds.proofs.Anew.{none_begun, untold_any}
+use Rattle.dm_rounds.proofs.Heard.{own_reply}
 use Rattle.dm_rounds.proofs.Serves.{count_some}
 use Rattle.dm_rounds.proofs.fresh.serve.Goals as goal
 
@@ -110,5 +111,5 @@ returns-in-Err-clause-goes g c scene first led is =
     let lost = closed_of (W.purpose reply.wire) (W.told reply.wire) in
     none_begun D.tells D.history (λ o. said_of (g.S.O.Origin.says o)) D.far D.faults scene pass N.tells (view c.args.desk.now) first c.args.wish.now c.args.slices W.tells W.purpose W.told W.origin (N.closed c.args.net.now) (N.origin_of c.args.net.now) reply led c.args.at count is.has
     (view c.begin_round.new.desk) (N.closed c.close_reply.new.net) (N.faults c.args.net.now) (N.faults c.close_reply.new.net) lost c.in-Err.stop c.parts_wanted-count.ensures c.close_reply.ensures.closed
-    (λ n. let heard = is.has.heard (g.met.N.Net.wires_tell n) in (heard.purpose_is, inl heard.sent))
+    (λ n. own_reply W.purpose W.told pass first reply is.has.replied (is.has.heard (g.met.N.Net.wires_tell n)))
     (c.in-Err.ensures.goes scene led (lost ∷ []) (untold_any D.tells D.history (λ o. said_of (g.S.O.Origin.says o)) D.far D.faults scene pass (view c.args.desk.now) led (lost ∷ []) count is.live) is.none)

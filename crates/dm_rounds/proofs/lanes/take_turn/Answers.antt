@@ -28,7 +28,7 @@ returns-in-Ok-More-clause-goes g c scene older asking cover shares reading =
     let lanes = c.args.lanes.now.items in
     let within : c.args.k < length lanes = omega (arith, c.requires.within, c.args.lanes.now.ok) in
     turned_more D.tells D.history (λ o. said_of (g.S.O.Origin.says o)) D.far D.faults N.tells W.tells g.met.N.Net.wires_tell W.purpose W.told W.origin scene c.args.going.now older asking cover shares lanes c.args.k c.index_mut.result.now within c.index_mut.ensures.value (view c.args.desk.now) (N.closed c.args.net.now) reading
-    c.turn_of.new.lane c.turn_of.ensures.part c.turn_of.ensures.bounded c.turn_of.ensures.wanted c.turn_of.ensures.stays c.turn_of.ensures.origin c.turn_of.ensures.sent (view c.turn_of.new.desk)
+    c.turn_of.new.lane c.turn_of.ensures.part c.turn_of.ensures.bounded c.turn_of.ensures.wanted c.turn_of.ensures.stays c.turn_of.ensures.origin c.turn_of.ensures.sent c.turn_of.ensures.given (view c.turn_of.new.desk)
     (rw c.in-Ok-More.field-0-is at (c.in-Ok-More.ensures.goes scene older asking cover shares reading.has
     (turn_at D.tells D.history (λ o. said_of (g.S.O.Origin.says o)) D.far D.faults N.tells W.tells g.met.N.Net.wires_tell W.purpose W.told W.origin scene c.args.going.now older asking cover shares lanes c.args.k c.index_mut.result.now within c.index_mut.ensures.value (view c.args.desk.now) (N.closed c.args.net.now) reading)))
 
@@ -55,7 +55,7 @@ returns-in-Ok-Whole-clause-goes g c scene older asking cover shares reading =
     subst (λ (l : List (Lane g.row.N-W.Denot)). ReadLeaves D.tells D.history (λ o. said_of (g.S.O.Origin.says o)) D.far D.faults N.tells W.tells W.purpose W.told W.origin scene c.args.going.now (view c.turn_of.new.desk) (N.closed c.close_lane.new.net) older asking cover shares l (Ok tt))
     (sym c.close_lane.ensures.items)
     (turned_whole D.tells D.history (λ o. said_of (g.S.O.Origin.says o)) D.far D.faults N.tells W.tells g.met.N.Net.wires_tell W.purpose W.told W.origin scene c.args.going.now older asking cover shares lanes c.args.k c.index_mut.result.now within c.index_mut.ensures.value (view c.args.desk.now) (N.closed c.args.net.now) reading
-    lane c.turn_of.ensures.part c.turn_of.ensures.bounded c.turn_of.ensures.wanted c.turn_of.ensures.stays c.turn_of.ensures.origin c.turn_of.ensures.sent (view c.turn_of.new.desk) (N.closed c.close_lane.new.net)
+    lane c.turn_of.ensures.part c.turn_of.ensures.bounded c.turn_of.ensures.wanted c.turn_of.ensures.stays c.turn_of.ensures.origin c.turn_of.ensures.sent c.turn_of.ensures.given (view c.turn_of.new.desk) (N.closed c.close_lane.new.net)
     (λ t. c.close_lane.ensures.closed t lane (sym (get_or-set_same lanes c.args.k lane lane within)))
     (rw c.in-Ok-Whole.field-0-is at (c.in-Ok-Whole.ensures.goes scene older asking cover shares reading.has
     (turn_at D.tells D.history (λ o. said_of (g.S.O.Origin.says o)) D.far D.faults N.tells W.tells g.met.N.Net.wires_tell W.purpose W.told W.origin scene c.args.going.now older asking cover shares lanes c.args.k c.index_mut.result.now within c.index_mut.ensures.value (view c.args.desk.now) (N.closed c.args.net.now) reading))))
@@ -80,7 +80,7 @@ returns-in-Err-clause-goes g c scene older asking cover shares reading =
     let lanes = c.args.lanes.now.items in
     let within : c.args.k < length lanes = omega (arith, c.requires.within, c.args.lanes.now.ok) in
     turned_stop D.tells D.history (λ o. said_of (g.S.O.Origin.says o)) D.far D.faults N.tells W.tells g.met.N.Net.wires_tell W.purpose W.told W.origin scene c.args.going.now older asking cover shares lanes c.args.k c.index_mut.result.now within c.index_mut.ensures.value (view c.args.desk.now) (N.closed c.args.net.now) reading
-    c.turn_of.new.lane c.turn_of.ensures.part c.turn_of.ensures.bounded c.turn_of.ensures.wanted c.turn_of.ensures.stays c.turn_of.ensures.origin c.turn_of.ensures.sent (view c.turn_of.new.desk) c.in-Err.stop
+    c.turn_of.new.lane c.turn_of.ensures.part c.turn_of.ensures.bounded c.turn_of.ensures.wanted c.turn_of.ensures.stays c.turn_of.ensures.origin c.turn_of.ensures.sent c.turn_of.ensures.given (view c.turn_of.new.desk) c.in-Err.stop
     (c.in-Err.ensures.goes scene older asking cover shares reading.has
     (turn_at D.tells D.history (λ o. said_of (g.S.O.Origin.says o)) D.far D.faults N.tells W.tells g.met.N.Net.wires_tell W.purpose W.told W.origin scene c.args.going.now older asking cover shares lanes c.args.k c.index_mut.result.now within c.index_mut.ensures.value (view c.args.desk.now) (N.closed c.args.net.now) reading))
 

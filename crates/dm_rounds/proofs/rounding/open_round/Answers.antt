@@ -28,7 +28,7 @@ returns-in-Ok-open_parts-clause-goes g c scene trace asking live key count asks 
     (next_asked D.tells D.history (λ o. said_of (g.S.O.Origin.says o)) D.far D.faults scene c.args.pass.now present trace asking passes planned c.args.source.now asks) in
     let many : length (next_shares scene trace) ≡ length c.items.result.now =
     next_count D.tells D.history (λ o. said_of (g.S.O.Origin.says o)) D.far D.faults scene c.args.pass.now present trace asking passes planned ∙ ap (λ (l : List SlicePass). length l) (sym shown) in
-    let opened = c.in-Ok-open_parts.ensures.opened asking (next_shares scene trace) (closed_before scene trace) asked many still in
+    let opened = c.in-Ok-open_parts.ensures.opened asking (next_shares scene trace) (closed_before scene trace) asks.own asked many still in
     round_opens D.tells D.history (λ o. said_of (g.S.O.Origin.says o)) D.far D.faults scene c.args.pass.now present trace asking passes planned N.tells W.tells W.purpose W.told W.origin
     (N.closed c.open_parts.new.net) c.open_parts.new.lanes.items keyed
     (subst (λ (o : g.row.S-O.Denot). IsOpened N.tells W.tells W.purpose W.told W.origin o asking (closed_before scene trace) (N.closed c.open_parts.new.net) (next_shares scene trace) c.open_parts.new.lanes.items) at opened)

@@ -1,4 +1,5 @@
-use Rattle.std.proofs.Common.{◌≡◌, ◌∙◌, ◌≤◌, [], refl, sym, ap, subst, arith, vec_len}
+use Rattle.std.proofs.Common.{◌≡◌, ◌∙◌, ◌≤◌, inl, [], refl, sym, ap, subst, arith, vec_len}
+use Rattle.std.proofs.lemmas.Bool.{false≢true}
 use Rattle.std.proofs.lemmas.List.{append-nil}
 use Rattle.dm_types.specs.declared.item.Limits.{Limits}
 use Rattle.dm_store.specs.Origin.{said_of}
@@ -47,7 +48,7 @@ run_rounds-requires-clause-may g c =
         older = untold [] [] c.args.slices;
         first = asking;
         shares = next_shares scene (untold [] [] c.args.slices);
-        is = next_runs D.tells D.history (λ o. said_of (g.S.O.Origin.says o)) D.far D.faults N.tells scene going (untold [] [] c.args.slices) asking asking (untold [] [] c.args.slices) (from_same (untold [] [] c.args.slices)) refl tt refl W.tells W.purpose W.told W.origin
+        is = next_runs D.tells D.history (λ o. said_of (g.S.O.Origin.says o)) D.far D.faults N.tells scene going (untold [] [] c.args.slices) asking asking (untold [] [] c.args.slices) (from_same (untold [] [] c.args.slices)) refl tt refl (inl refl) W.tells W.purpose W.told W.origin
             (view c.open_round.new.desk) (N.closed c.open_round.new.net) (N.origin_of c.open_round.new.net) c.open_round.new.lanes.items c.args.at going refl refl opens (c.open_round.ensures.stays ∙ start.origin) start.at_is;
       };
       count_is = refl;
@@ -69,7 +70,7 @@ returns-in-Ok-clause-goes g c scene start =
     let own : going.pass ≡ pass = ap (λ (x : Going). x.pass) same in
     let turn : going.round ≡ 1 = ap (λ (x : Going). x.round) same in
     let older = untold [] [] c.args.slices in
-    let running = next_runs D.tells D.history (λ o. said_of (g.S.O.Origin.says o)) D.far D.faults N.tells scene (record { pass = pass; round = 1 }) older asking asking older (from_same older) refl tt refl W.tells W.purpose W.told W.origin
+    let running = next_runs D.tells D.history (λ o. said_of (g.S.O.Origin.says o)) D.far D.faults N.tells scene (record { pass = pass; round = 1 }) older asking asking older (from_same older) refl tt refl (inl refl) W.tells W.purpose W.told W.origin
     (view c.open_round.new.desk) (N.closed c.open_round.new.net) (N.origin_of c.open_round.new.net) c.open_round.new.lanes.items c.args.at going own turn opens (c.open_round.ensures.stays ∙ start.origin) start.at_is in
     subst (λ (p : Pass). RunLeaves D.tells D.history (λ o. said_of (g.S.O.Origin.says o)) D.far D.faults N.tells scene p (view c.run_rounds.new.desk) (N.closed c.run_rounds.new.net) (N.faults c.args.net.now) (N.faults c.run_rounds.new.net) older asking c.run_rounds.result) own
     (leaves_longer D.tells D.history (λ o. said_of (g.S.O.Origin.says o)) D.far D.faults N.tells scene going.pass (view c.run_rounds.new.desk) (N.closed c.run_rounds.new.net) (N.faults c.args.net.now) (N.faults c.open_round.new.net) (N.faults c.run_rounds.new.net) older asking c.run_rounds.result
@@ -85,7 +86,7 @@ returns-in-Err-clause-goes g c scene start =
     let asking = kept_asking pass c.args.source.now in
     let older = untold [] [] c.args.slices in
     let asks : AsksAll asking c.args.source.now pass = record { source_is = refl; key_is = refl; purpose_is = refl; own = refl; known_is = refl } in
-    opening_stops D.tells D.history (λ o. said_of (g.S.O.Origin.says o)) D.far D.faults N.tells scene (record { pass = pass; round = 1 }) older asking asking older (from_same older) refl tt refl
-    (N.faults c.args.net.now) (N.faults c.open_round.new.net) (view c.open_round.new.desk) (N.closed c.open_round.new.net) c.in-Err.stop c.args.source.now (N.faults c.args.net.now) (λ kind. omega arith)
+    opening_stops D.tells D.history (λ o. said_of (g.S.O.Origin.says o)) D.far D.faults N.tells scene (record { pass = pass; round = 1 }) older asking asking older (from_same older) refl tt refl (inl refl)
+    (N.faults c.args.net.now) (N.faults c.open_round.new.net) (view c.open_round.new.desk) (N.closed c.open_round.new.net) c.in-Err.stop (λ n served. absurd (false≢true served)) c.args.source.now (N.faults c.args.net.now) (λ kind. omega arith)
     (λ cause why. absurd (let e = why.1 in omega (arith, e)))
     (c.in-Err.ensures.goes scene older asking start.live (told_some pass asking _ start.keyed) refl asks start.keyed (λ n. start.still n ∙ sym (append-nil scene.closed)) start.origin)

@@ -20,7 +20,7 @@ returns-in-Ok-clause-opened g c asking shares start asked count opening =
     let rest = drop_one plan c.requires.some in
     let same = ap (λ (l : List SlicePass). length l) (rest_is plan) in
     all_opened N.tells W.tells W.purpose W.told W.origin (N.origin_of c.args.net.now) asking start (N.closed c.ask_rest.new.net) shares (1 + length (take (length plan - 1) (drop 1 plan))) c.ask_rest.new.lanes.items
-    (let l = count in omega (arith, l, rest, same))
+    (let l = count in omega (arith, l, rest, same)) (λ served. omega arith)
     (c.in-Ok.ensures.goes asking shares start 1 (subst (λ (l : List SlicePass). AreAsked asking c.args.source.now c.args.pass.now shares 1 l) (sym (rest_is plan)) asked) opening)
 
 pub returns-in-Err-clause-stopped : goal.returns-in-Err-clause-stopped
