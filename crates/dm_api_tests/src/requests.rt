@@ -24,6 +24,7 @@ fn word_of(call: &Call) -> &'static str {
         Call::Cancel(_) => "cancel",
         Call::Archive => "archive",
         Call::History(_) => "history",
+        Call::Report => "report",
         Call::Stop => "stop",
     }
 }
@@ -57,7 +58,7 @@ fn told(alloc: Global, stream: &[u8]) -> Result<(u16, Text), NoMemory> {
     }
 }
 
-const CASES: [(&[u8], u16, &[u8]); 40] = [
+const CASES: [(&[u8], u16, &[u8]); 45] = [
     (b"GET /items HTTP/1.1\r\n\r\n", 200, b"page"),
     (
         b"GET /items?after=0&limit=1 HTTP/1.1\r\nHost: a\r\n\r\n",
@@ -119,8 +120,25 @@ const CASES: [(&[u8], u16, &[u8]); 40] = [
     (b"POST /archive HTTP/1.1\r\n\r\n", 200, b"archive"),
     (b"POST /stop HTTP/1.1\r\n\r\n", 200, b"stop"),
     (b"GET / HTTP/1.1\r\n\r\n", 404, b"{\"error\":\"path\"}"),
+    (b"GET /report HTTP/1.1\r\n\r\n", 200, b"report"),
+    (b"GET /report?x=1 HTTP/1.1\r\n\r\n", 200, b"report"),
     (
-        b"GET /report HTTP/1.1\r\n\r\n",
+        b"POST /report HTTP/1.1\r\n\r\n",
+        405,
+        b"Allow: GET\r\n\r\n{\"error\":\"method\"}",
+    ),
+    (
+        b"HEAD /report HTTP/1.1\r\n\r\n",
+        405,
+        b"Allow: GET\r\n\r\n{\"error\":\"method\"}",
+    ),
+    (
+        b"GET /report/ HTTP/1.1\r\n\r\n",
+        404,
+        b"{\"error\":\"path\"}",
+    ),
+    (
+        b"GET /Report HTTP/1.1\r\n\r\n",
         404,
         b"{\"error\":\"path\"}",
     ),

@@ -29,6 +29,10 @@ path_of_a_pause : target_of (codes "/items/7/pause") ≡ Some (targets.Pause (nu
 unfolding matchit_on_literals with_route
 path_of_a_pause = refl
 
+path_of_the_report : target_of (codes "/report") ≡ Some targets.Report
+unfolding matchit_on_literals with_route
+path_of_the_report = refl
+
 path_of_no_number : target_of (codes "/items/x") ≡ None
 unfolding matchit_on_literals with_route
 path_of_no_number = refl

@@ -21,7 +21,7 @@ IsPlain route = list_all is_ascii route.text ≡ true
 
 each_plain : Each IsPlain routes
 unfolding matchit_on_literals with_route
-each_plain = (refl, (refl, (refl, (refl, (refl, (refl, (refl, (refl, tt))))))))
+each_plain = (refl, (refl, (refl, (refl, (refl, (refl, (refl, (refl, (refl, tt)))))))))
 
 of_found : (found : Option (RouteOf Spot)) (route : RouteOf Spot) → Found IsPlain found → found ≡ Some route → IsPlain route
 of_found found route plain is = subst (Found IsPlain) is plain

@@ -70,6 +70,7 @@ asked_of request (targets.Resume id) = on_post request.method (targets.Resume id
 asked_of request (targets.Cancel id) = on_post request.method (targets.Cancel id) (calls.Cancel id)
 asked_of request targets.Archive = on_post request.method targets.Archive calls.Archive
 asked_of request targets.History = on_get request.method targets.History (shows calls.History (window_of request.query))
+asked_of request targets.Report = on_get request.method targets.Report (Ok calls.Report)
 asked_of request targets.Stop = on_post request.method targets.Stop calls.Stop
 
 abbrev pub asked_at : ApiRequest → Option Target → Result Call Refusal

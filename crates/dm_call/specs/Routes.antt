@@ -41,8 +41,9 @@ item_routes =
 abbrev pub routes : Routes
 routes =
     with_route (codes "/stop") spots.Stop (
+    with_route (codes "/report") spots.Report (
     with_route (codes "/history") spots.History (
-    with_route (codes "/archive") spots.Archive item_routes))
+    with_route (codes "/archive") spots.Archive item_routes)))
 
 abbrev id_of : ℕ → ItemId
 id_of id = record { 0 = id }
@@ -56,6 +57,7 @@ target_at spots.Resume id = option_map (λ id. targets.Resume (id_of id)) id
 target_at spots.Cancel id = option_map (λ id. targets.Cancel (id_of id)) id
 target_at spots.Archive id = Some targets.Archive
 target_at spots.History id = Some targets.History
+target_at spots.Report id = Some targets.Report
 target_at spots.Stop id = Some targets.Stop
 
 -- the part of the path that `{id}` stands for

@@ -11,6 +11,7 @@ pub enum Target {
     Cancel(ItemId),
     Archive,
     History,
+    Report,
     Stop,
 }
 
@@ -48,6 +49,8 @@ pub enum Call {
     Archive,
     /// Rows of the history, by rising id.
     History(Window),
+    /// How many items are in each state, as text.
+    Report,
     Stop,
 }
 

@@ -42,6 +42,7 @@ fn call_on(alloc: Global, request: &ApiRequest, target: Target) -> Result<Call, 
         (Target::Cancel(id), MethodKind::Post) => Ok(Call::Cancel(id)),
         (Target::Archive, MethodKind::Post) => Ok(Call::Archive),
         (Target::History, MethodKind::Get) => Ok(Call::History(window(alloc, request)?)),
+        (Target::Report, MethodKind::Get) => Ok(Call::Report),
         (Target::Stop, MethodKind::Post) => Ok(Call::Stop),
         _ => Err(CallFault::Refused(Refusal::Method(target))),
     }

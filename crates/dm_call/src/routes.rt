@@ -23,6 +23,7 @@ pub enum Spot {
     Cancel,
     Archive,
     History,
+    Report,
     Stop,
 }
 
@@ -53,6 +54,7 @@ fn routes(alloc: Global) -> Result<Router<Spot>, NoMemory>
     let mut router = items(alloc)?;
     add(&mut router, "/archive", Spot::Archive)?;
     add(&mut router, "/history", Spot::History)?;
+    add(&mut router, "/report", Spot::Report)?;
     add(&mut router, "/stop", Spot::Stop)?;
     Ok(router)
 }
@@ -93,6 +95,7 @@ fn target_with(spot: Spot, id: Option<&str>) -> Option<Target>
         Spot::Items => Some(Target::Items),
         Spot::Archive => Some(Target::Archive),
         Spot::History => Some(Target::History),
+        Spot::Report => Some(Target::Report),
         Spot::Stop => Some(Target::Stop),
         Spot::Item => Some(Target::Item(read_id(id)?)),
         Spot::Pause => Some(Target::Pause(read_id(id)?)),

@@ -31,6 +31,7 @@ allowed (targets.Resume id) = codes "POST"
 allowed (targets.Cancel id) = codes "POST"
 allowed targets.Archive = codes "POST"
 allowed targets.History = codes "GET"
+allowed targets.Report = codes "GET"
 allowed targets.Stop = codes "POST"
 
 abbrev pub allow_field : Option Target → List ℕ

@@ -116,7 +116,7 @@ fn methods(target: Target) -> &'static [u8]
         Target::Item(_) => b"GET, DELETE",
         Target::Pause(_) | Target::Resume(_) | Target::Cancel(_) => b"POST",
         Target::Archive | Target::Stop => b"POST",
-        Target::History => b"GET",
+        Target::History | Target::Report => b"GET",
     }
 }
 

@@ -26,7 +26,7 @@ use Rattle.dm_does.specs.Doing.{Doing, Given, does, on_item, refuses}
 use Rattle.dm_response.specs.Reply.{trouble_of}
 use Rattle.dm_response.specs.declared.reply.ApiReply.{ApiReply}
 use Rattle.dm_response.specs.declared.trouble.Trouble.TheVariants as troubles
-use Rattle.dm_service.specs.Replies.{page_by, reply_by, stop_by}
+use Rattle.dm_service.specs.Replies.{page_by, reply_by, report_by, stop_by}
 use Rattle.dm_service.specs.Tasks.{task_by}
 use Rattle.dm_service.specs.declared.task.Task.{Task}
 use Rattle.dm_service.specs.declared.task.Task.TheVariants as tasks
@@ -95,6 +95,7 @@ api_task seen (tasks.Job job) = api_of seen job (does_now job seen)
 api_task seen (tasks.Page window) = tells (page_by seen.list.items window)
 api_task seen tasks.Archive = tells (trouble_of (troubles.Refused refusals.Path))
 api_task seen (tasks.History window) = tells (trouble_of (troubles.Refused refusals.Path))
+api_task seen tasks.Report = tells (report_by seen.list.items)
 api_task seen tasks.Stop = tells stop_by
 
 abbrev pub api_asked : Seen → Result Call Refusal → Api

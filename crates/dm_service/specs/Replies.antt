@@ -4,6 +4,7 @@ use Rattle.serde_json.specs.Data.{Data, boolean, object, no_members, put}
 use Rattle.serde_json.specs.Written.{compact_text}
 use Rattle.dm_types.specs.declared.item.Item.{Item}
 use Rattle.dm_types.specs.declared.item.ItemId.{ItemId}
+use Rattle.dm_report.specs.Report.{report_of}
 use Rattle.dm_report.specs.declared.verdict.Verdict.{Verdict}
 use Rattle.dm_report.specs.declared.verdict.Verdict.TheVariants as verdicts
 use Rattle.dm_does.specs.declared.course.Course.{Course}
@@ -14,7 +15,7 @@ use Rattle.dm_call.specs.declared.call.Window.{Window}
 use Rattle.dm_response.specs.Json.{item_data, items_data, number_data}
 use Rattle.dm_response.specs.Reply.{reply_of, trouble_of}
 use Rattle.dm_response.specs.declared.reply.ApiReply.{ApiReply}
-use Rattle.dm_response.specs.declared.reply.Media.TheVariants.{Json}
+use Rattle.dm_response.specs.declared.reply.Media.TheVariants.{Json, Plain}
 use Rattle.dm_response.specs.declared.trouble.Trouble.{Trouble}
 use Rattle.dm_response.specs.declared.trouble.Trouble.TheVariants as troubles
 
@@ -39,6 +40,10 @@ page_of window items = take window.limit (items_after window.after items)
 
 abbrev pub page_by : List Item → Window → ApiReply
 page_by items window = told (items_data (page_of window items)) false
+
+-- the report on all items, as text
+abbrev pub report_by : List Item → ApiReply
+report_by items = reply_of 200 Plain None (report_of items) false
 
 abbrev pub stop_by : ApiReply
 stop_by = told stopping_data true

@@ -21,4 +21,5 @@ task_by (calls.Resume id) = tasks.Job (jobs.Resume id 1)
 task_by (calls.Cancel id) = tasks.Job (jobs.Cancel id)
 task_by calls.Archive = tasks.Archive
 task_by (calls.History window) = tasks.History window
+task_by calls.Report = tasks.Report
 task_by calls.Stop = tasks.Stop

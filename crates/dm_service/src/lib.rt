@@ -5,6 +5,6 @@ mod reply;
 mod shown;
 mod task;
 
-pub use reply::{page_reply, reply_to, stop_reply};
+pub use reply::{page_reply, reply_to, report_reply, stop_reply};
 pub use shown::{item_of, removed_id};
 pub use task::{Task, task_of};

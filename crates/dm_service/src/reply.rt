@@ -1,14 +1,15 @@
 //! What is replied, by how a job goes on.
 ghost use Rattle.std.specs.Prelude.{◌≡◌, false, None, IfOk};
 ghost use Rattle.std.specs.Option.{option_copied};
-ghost use Rattle.dm_service.specs.Replies.{done_by, items_after, page_by, page_of, removed_data, reply_by, shown as shown_by, stop_by, stopping_data, told, trouble_by};
+ghost use Rattle.dm_service.specs.Replies.{done_by, items_after, page_by, page_of, removed_data, reply_by, report_by, shown as shown_by, stop_by, stopping_data, told, trouble_by};
 ghost use Rattle.serde_json.specs.View.{view};
 ghost use Rattle.dm_response.specs.Reply.{reply_of};
 ghost use Rattle.dm_response.specs.declared.reply.Media.TheVariants.{Json};
 
 use dm_call::Window;
 use dm_does::{Course, Show};
-use dm_report::Verdict;
+use dm_item::Items;
+use dm_report::{Verdict, report_text};
 use dm_response::{
     ApiReply, Media, Trouble, item_text, items_text, reply_with, text_of, trouble_reply,
 };
@@ -128,6 +129,21 @@ fn items_from(items: &[Item], after: u32) -> &[Item]
         [item, ..] if item.id.0 > after => items,
         [_, rest @ ..] => items_from(rest, after),
     }
+}
+
+/// The reply that tells the report on all items, as text.
+pub fn report_reply(alloc: Global, items: &Items) -> Result<ApiReply, NoMemory>
+    ensures { IfOk result (λ reply. reply ≡ report_by items.now.items) }
+{
+    let text = report_text(alloc, items)?;
+    reply_with(
+        alloc,
+        StatusCode::OK,
+        Media::Plain,
+        None,
+        text.bytes(),
+        false,
+    )
 }
 
 /// A reply of status 200 with this content.

@@ -17,6 +17,8 @@ pub enum Task {
     Archive,
     /// Part of the history is shown.
     History(Window),
+    /// The report on all items is told.
+    Report,
     /// The service ends.
     Stop,
 }
@@ -35,6 +37,7 @@ pub fn task_of(call: Call) -> Task
         Call::Cancel(id) => Task::Job(Job::Cancel(id)),
         Call::Archive => Task::Archive,
         Call::History(window) => Task::History(window),
+        Call::Report => Task::Report,
         Call::Stop => Task::Stop,
     }
 }

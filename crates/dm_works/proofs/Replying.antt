@@ -91,6 +91,7 @@ fits_task (calls.Resume id) fits = tt
 fits_task (calls.Cancel id) fits = tt
 fits_task calls.Archive fits = tt
 fits_task (calls.History window) fits = tt
+fits_task calls.Report fits = tt
 fits_task calls.Stop fits = tt
 
 module _ {D O : Type 0} (counts : D → DiskKind → ℕ) (old new : View D O) (request : ApiRequest) (at : ℕ) (result : Result ApiReply NoMemory) where

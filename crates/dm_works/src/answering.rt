@@ -3,7 +3,7 @@ ghost use Rattle.std.specs.Prelude.{◌≡◌, IfOk};
 ghost use Rattle.dm_store.specs.Keeps.{IsDesk};
 ghost use Rattle.dm_store.specs.Origin.{said_of};
 ghost use Rattle.dm_service.specs.Api.{api_of, api_task, does_now};
-ghost use Rattle.dm_service.specs.Replies.{page_by};
+ghost use Rattle.dm_service.specs.Replies.{page_by, report_by};
 ghost use Rattle.dm_works.specs.Answering.{Answered, AnswersOn, Gives};
 ghost use Rattle.dm_works.specs.Deciding.{FitsJob, FitsTask, seen_of};
 ghost use Rattle.dm_works.specs.Moving.{Steps};
@@ -16,7 +16,9 @@ use dm_does::Job;
 use dm_edge::Origin;
 use dm_items::Desk;
 use dm_response::{ApiReply, Trouble, trouble_reply};
-use dm_service::{Task, item_of, page_reply, removed_id, reply_to, stop_reply, task_of};
+use dm_service::{
+    Task, item_of, page_reply, removed_id, reply_to, report_reply, stop_reply, task_of,
+};
 use dm_types::NoMemory;
 use std::alloc::Global;
 
@@ -57,6 +59,7 @@ fn do_task<D: Disk, O: Origin>(
         Task::Page(window) => show_page(alloc, desk, window),
         Task::Archive => trouble_reply(alloc, Trouble::Refused(Refusal::Path)),
         Task::History(_) => trouble_reply(alloc, Trouble::Refused(Refusal::Path)),
+        Task::Report => show_report(alloc, desk),
         Task::Stop => stop_reply(alloc),
     }
 }
@@ -71,6 +74,13 @@ fn show_page<D: Disk, O: Origin>(
 {
     let list = desk.items();
     page_reply(alloc, list.items(), window)
+}
+
+/// Shows the report on the list.
+fn show_report<D: Disk, O: Origin>(alloc: Global, desk: &Desk<D, O>) -> Result<ApiReply, NoMemory>
+    ensures { IfOk result (λ reply. reply ≡ report_by desk.now.items.items) }
+{
+    report_reply(alloc, desk.items())
 }
 
 fn do_job<D: Disk, O: Origin>(

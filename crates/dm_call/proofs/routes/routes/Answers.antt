@@ -2,4 +2,4 @@ use Rattle.std.proofs.Common.{refl}
 use Rattle.dm_call.proofs.routes.routes.Goals as goal
 
 pub returns : goal.returns
-returns c = rw (c.in_ok-add-3.ensures, c.in_ok-add-2.ensures, c.in_ok-add.ensures, c.in_ok-router.ensures) refl
+returns c = rw (c.in_ok-add-4.ensures, c.in_ok-add-3.ensures, c.in_ok-add-2.ensures, c.in_ok-add.ensures, c.in_ok-router.ensures) refl

@@ -17,5 +17,8 @@ returns-in-Archive-clause-steps g c = steps_same g.D.Disk.tells g.D.Disk.history
 pub returns-in-History-clause-steps : goal.returns-in-History-clause-steps
 returns-in-History-clause-steps g c = steps_same g.D.Disk.tells g.D.Disk.history g.D.Disk.faults g.D.Disk.far (λ o. said_of (g.O.Origin.says o)) c.args.desk.now
 
+pub returns-in-Report-clause-steps : goal.returns-in-Report-clause-steps
+returns-in-Report-clause-steps g c = steps_same g.D.Disk.tells g.D.Disk.history g.D.Disk.faults g.D.Disk.far (λ o. said_of (g.O.Origin.says o)) c.args.desk.now
+
 pub returns-in-Stop-clause-steps : goal.returns-in-Stop-clause-steps
 returns-in-Stop-clause-steps g c = steps_same g.D.Disk.tells g.D.Disk.history g.D.Disk.faults g.D.Disk.far (λ o. said_of (g.O.Origin.says o)) c.args.desk.now
