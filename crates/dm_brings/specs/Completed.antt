@@ -14,7 +14,7 @@ use Rattle.dm_fetch.specs.Completes.{IsLeftIn, SumDiffers}
 use Rattle.dm_report.specs.Said.{Said, only}
 use Rattle.dm_report.specs.declared.verdict.Verdict.TheVariants.{Done, NoMemory}
 
--- The item is complete, after one attempt by the user at most, and that is said. Or memory was wanting. Or a digest was stated, all of the content came, and it has another sum.
+-- The item is complete, after one attempt, and that is said. Or memory was wanting. Or a digest was stated, all of the content came, and it has another sum.
 pub data EndsWell {D O : Type 0} (tells : Type 0) (clock : D → Clock) (says : O → Says) (far : D → ℕ) (counts : D → DiskKind → ℕ) (old new : View D O) (was : List Closed) (before : NetFault → ℕ) (id : ItemId) (at : ℕ) (said : Said) : Type 0 where
   completed : IsLeftIn old new id phases.Complete → said.verdict ≡ Done → EndsWell tells clock says far counts old new was before id at said
   wanting : said ≡ only NoMemory → EndsWell tells clock says far counts old new was before id at said

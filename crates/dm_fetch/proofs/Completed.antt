@@ -8,7 +8,6 @@ use Rattle.dm_types.specs.declared.item.ItemId.{ItemId}
 use Rattle.dm_types.specs.declared.item.Phase.{Phase}
 use Rattle.dm_types.specs.declared.item.Phase.TheVariants as phases
 use Rattle.dm_types.specs.declared.kinds.By.{By}
-use Rattle.dm_types.specs.declared.kinds.By.TheVariants.{Itself, User}
 use Rattle.dm_types.specs.declared.kinds.DiskKind.{DiskKind}
 use Rattle.dm_types.specs.declared.reason.Reason.TheVariants as reasons
 use Rattle.dm_types.specs.declared.slices.Slice.{Slice}
@@ -17,7 +16,7 @@ use Rattle.dm_policy.specs.Cause.{reason_of_cause}
 use Rattle.dm_policy.specs.declared.cause.Cause.TheVariants as causes
 use Rattle.dm_edge.specs.Wire.{Closed}
 use Rattle.dm_edge.specs.declared.fault.NetFault.{NetFault}
-use Rattle.dm_item.specs.Fields.{is_began_by_user}
+use Rattle.dm_item.specs.Fields.{is_began}
 use Rattle.dm_item.specs.History.{count_of}
 use Rattle.dm_item.specs.Lawful.{History}
 use Rattle.dm_item.specs.Listing.{Listing, item_in}
@@ -52,17 +51,17 @@ close_phase : (id : ItemId) (at : ℕ) (close : Close) (item : Item) → (change
 close_phase id at (Broken cause) item = refl
 close_phase id at (Done total digest) item = refl
 
--- how often the user began
+-- how often an attempt began
 
-none_told : (id : ItemId) (told : Option Tale) → count_of is_began_by_user (told_entries id told) ≡ 0
+none_told : (id : ItemId) (told : Option Tale) → count_of is_began (told_entries id told) ≡ 0
 none_told id None = refl
 none_told id (Some tale) = refl
 
-none_saved : (id : ItemId) (saves : List (List Slice)) → count_of is_began_by_user (map (entries.Progress id) saves) ≡ 0
+none_saved : (id : ItemId) (saves : List (List Slice)) → count_of is_began (map (entries.Progress id) saves) ≡ 0
 none_saved id [] = refl
 none_saved id (slices ∷ more) = none_saved id more
 
-none_closed : (id : ItemId) (at : ℕ) (close : Close) → count_of is_began_by_user (close_entries id at close) ≡ 0
+none_closed : (id : ItemId) (at : ℕ) (close : Close) → count_of is_began (close_entries id at close) ≡ 0
 none_closed id at (Broken cause) = refl
 none_closed id at (Done total digest) = refl
 
@@ -70,19 +69,17 @@ count_test : (test : Bool) (n : ℕ) → cond test (n + 1) n ≡ cond test 1 0 +
 count_test true n = omega arith
 count_test false n = omega arith
 
-count_both : (xs ys : List Entry) → count_of is_began_by_user (xs ++ ys) ≡ count_of is_began_by_user xs + count_of is_began_by_user ys
+count_both : (xs ys : List Entry) → count_of is_began (xs ++ ys) ≡ count_of is_began xs + count_of is_began ys
 count_both [] ys = omega arith
 count_both (x ∷ xs) ys =
     let later = count_both xs ys in
-    let left = count_test (is_began_by_user x) (count_of is_began_by_user (xs ++ ys)) in
-    let right = count_test (is_began_by_user x) (count_of is_began_by_user xs) in
+    let left = count_test (is_began x) (count_of is_began (xs ++ ys)) in
+    let right = count_test (is_began x) (count_of is_began xs) in
     omega (arith, later, left, right)
 
-one_test : (item : Item) (by : By) (at : ℕ) (test : Bool) → count_of is_began_by_user (cond test (renewal item by at ∷ []) [] ++ start item by at ∷ []) ≤ 1
-one_test item User at true = omega arith
-one_test item User at false = omega arith
-one_test item Itself at true = omega arith
-one_test item Itself at false = omega arith
+one_test : (item : Item) (by : By) (at : ℕ) (test : Bool) → count_of is_began (cond test (renewal item by at ∷ []) [] ++ start item by at ∷ []) ≡ 1
+one_test item by at true = refl
+one_test item by at false = refl
 
 module _ {D O : Type 0} (scene : Scene D O) (trace : Trace) (close : Close) where
   abbrev id : ItemId
@@ -112,7 +109,7 @@ module _ {D O : Type 0} (scene : Scene D O) (trace : Trace) (close : Close) wher
       ap (λ (i : Item). i.phase) (all_then head (told ++ (saved ++ last)) scene.item ∙ all_then told (saved ++ last) begun ∙ all_then saved last named) ∙ close_phase id scene.at close (changed_all saved named)
 
   -- an attempt is begun once
-  pub one_began : count_of is_began_by_user (all_entries scene trace close) ≤ 1
+  pub one_began : count_of is_began (all_entries scene trace close) ≡ 1
   one_began =
       let first = one_test scene.item scene.by scene.at (begins_anew scene.item) in
       let a = count_both head (told ++ (saved ++ last)) in

@@ -16,7 +16,7 @@ use Rattle.dm_policy.specs.declared.cause.Cause.TheVariants as causes
 use Rattle.dm_name.specs.Forms.{IsTaken, form}
 use Rattle.dm_edge.specs.Wire.{Closed}
 use Rattle.dm_edge.specs.declared.fault.NetFault.{NetFault}
-use Rattle.dm_item.specs.Fields.{is_began_by_user}
+use Rattle.dm_item.specs.Fields.{is_began}
 use Rattle.dm_item.specs.History.{count_of}
 use Rattle.dm_item.specs.Lawful.{History}
 use Rattle.dm_item.specs.Listing.{item_in}
@@ -98,11 +98,11 @@ CompletesAtOnce tells clock says far counts net old new was now before after id 
     ⊎ (((end ≡ ended.Fault faults.NoMemory) × Attempts tells clock says far counts net old new was now before after id by slices at (ended.Fault faults.NoMemory))
     ⊎ ItemWith old id (SumDiffers tells clock says far counts old was before by at))
 
--- The item is in this phase, and the user began at most one attempt of those that were recorded.
+-- The item is in this phase, and of what was recorded one entry begins an attempt.
 pub record IsLeftIn {D O : Type 0} (old new : View D O) (id : ItemId) (phase : Phase) : Type 0 where
   pub item : Item
   pub there : item_in id.0 new.items.items ≡ Some item
   pub phase_is : item.phase ≡ phase
   pub recorded : History
   pub list_is : new.list ≡ old.list ++ recorded
-  pub one : count_of is_began_by_user recorded ≤ 1
+  pub one : count_of is_began recorded ≡ 1
