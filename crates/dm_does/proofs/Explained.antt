@@ -33,7 +33,19 @@ settled_plain tells start end at items [] left are = tt
 settled_plain tells start end at [] (entry ∷ more) left are = absurd are
 settled_plain tells start end at (item ∷ rest) (entry ∷ more) left are = entry_plain at item entry more are.0.settles (settled_plain tells start end at rest more left are.1)
 
-behind_opened : (tells : Type 0) (start end : Clock) (at : ℕ) (log : Log) → tells → IsLawful (log.found ++ tried_of log) → IsTried tells start end at log.found log.opening [] → ArePlain (log.more ++ log.failed)
+-- what an opening tried stands behind what reads
+pub behind_opening : (tells : Type 0) (start end : Clock) (at : ℕ) (found tried : History) (left : List Item) → tells → IsLawful (found ++ tried) → IsTried tells start end at found tried left → IsBehind (now start) found tried
+behind_opening tells start end at found tried left told lawful opened = record {
+  reads = opened.reads told;
+  lawful = lawful;
+  at = at;
+  rest = opened.settled;
+  tried_is = opened.tried_is;
+  plain = settled_plain tells start end at (finishing (items_of (found ++ reopening found at))) opened.settled left opened.settles;
+}
+
+-- and so does what was tried on the list that it opened
+pub behind_opened : (tells : Type 0) (start end : Clock) (at : ℕ) (log : Log) → tells → IsLawful (log.found ++ tried_of log) → IsTried tells start end at log.found log.opening [] → ArePlain (log.more ++ log.failed)
     → IsBehind (now start) log.found (tried_of log)
 behind_opened tells start end at log told lawful opened once = record {
   reads = opened.reads told;
@@ -46,17 +58,12 @@ behind_opened tells start end at log told lawful opened once = record {
   plain = plain_append opened.settled (log.more ++ log.failed) (settled_plain tells start end at (finishing (items_of (log.found ++ reopening log.found at))) opened.settled [] opened.settles) once;
 }
 
-opens_once : (brings : ℕ → Bringing) (tells : Type 0) (words : List (List ℕ)) (at : ℕ) (before after : World) (said : Said) (run : Run) → tells → Answers brings tells words at before after said run → OpensOnce (now before.disk) run
+-- a run that answers so opens the list once
+pub opens_once : (brings : ℕ → Bringing) (tells : Type 0) (words : List (List ℕ)) (at : ℕ) (before after : World) (said : Said) (run : Run) → tells → Answers brings tells words at before after said run → OpensOnce (now before.disk) run
 opens_once brings tells words at before after said Untouched told answers = tt
 opens_once brings tells words at before after said Unread told answers = tt
-opens_once brings tells words at before after said (Unopened found recorded failed rest) told answers = record {
-  reads = answers.tried.reads told;
-  lawful = answers.lawful;
-  at = at;
-  rest = answers.tried.settled;
-  tried_is = answers.tried.tried_is;
-  plain = settled_plain tells before.disk after.disk at (finishing (items_of (found ++ reopening found at))) answers.tried.settled answers.left answers.tried.settles;
-}
+opens_once brings tells words at before after said (Unopened found recorded failed rest) told answers =
+    behind_opening tells before.disk after.disk at found (recorded ++ (failed ++ rest)) answers.left told answers.lawful answers.tried
 opens_once brings tells words at before after said (Opened log) told answers =
     behind_opened tells before.disk after.disk at log told answers.works.lawful answers.works.opened answers.works.once
 

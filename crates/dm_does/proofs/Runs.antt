@@ -14,10 +14,10 @@ use Rattle.dm_kept.specs.Recovery.{Found, Through, recovered}
 use Rattle.dm_kept.proofs.Histories.{records_one}
 use Rattle.dm_kept.proofs.Resting.{empty_kept, kept_weaker}
 use Rattle.dm_answers.specs.Opening.{reopening}
-use Rattle.dm_does.specs.Headline.{AnyRuns, Cut, Ended, IsBehind, IsFrontOf, IsListOf, OpensOnce, Piece, BeginsWith, beside, crashed, cut, ended, fresh, killed, lost, next, none, ran, Lives}
+use Rattle.dm_does.specs.Headline.{AnyRuns, Cut, Ended, IsBehind, IsFrontOf, IsListOf, OpensOnce, Piece, BeginsWith, away, beside, crashed, cut, ended, fresh, killed, lost, next, none, ran, Lives}
 use Rattle.dm_does.specs.Leaving.{KeepsAll, KeepsOne, TriedBy}
 use Rattle.dm_does.specs.Log.{Run, Untouched, Unread, Unopened, Opened, tried_in}
-use Rattle.dm_does.proofs.Added.{added_kept}
+use Rattle.dm_does.proofs.Added.{added_kept, taken_kept}
 use Rattle.dm_does.proofs.Begun.{begins_kept}
 use Rattle.dm_does.proofs.Behind.{FitAll, behind_all, fit_split, lawful_front, plain_fit, through_same}
 use Rattle.dm_does.proofs.Whole.{never_less, there}
@@ -252,6 +252,15 @@ lives_stand says disk pieces (beside before _ _ added lives is) =
       lists = on.lists;
       lawful = on.lawful;
       kept = added_kept says (Through on.whole on.rest) before disk added is.sound is.state is.files is.no_part is.no_item on.kept;
+    }
+lives_stand says disk pieces (away before _ _ taken lives is) =
+    let on : Stands says pieces before = lives_stand says before pieces lives in
+    record {
+      whole = on.whole;
+      rest = on.rest;
+      lists = on.lists;
+      lawful = on.lawful;
+      kept = taken_kept says (Through on.whole on.rest) before disk taken is.sound is.state is.files is.no_part is.no_item on.kept;
     }
 lives_stand says disk pieces (lost before _ image _ lives left begins) =
     let on : Stands says pieces before = lives_stand says before pieces lives in

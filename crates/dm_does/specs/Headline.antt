@@ -6,7 +6,7 @@ use Rattle.dm_types.specs.declared.item.Item.{Item}
 use Rattle.dm_types.specs.declared.item.Key.{Key}
 use Rattle.dm_disk_model.specs.Disk.{DiskState, Image, History as Clock, IsSoundDisk, MayLeave, bytes_at, now}
 use Rattle.dm_disk_model.specs.Firm.{IsAbsent}
-use Rattle.dm_disk_model.specs.Folder.{Created, EachPrefix, Folder, IsSoundFolder}
+use Rattle.dm_disk_model.specs.Folder.{Changes, Created, EachPrefix, Folder, IsSoundFolder, Removed}
 use Rattle.dm_item.specs.Lawful.{DoneOnce, History, IsLawful, items_of, next_id_of}
 use Rattle.dm_item.specs.Row.{is_cancelled, is_complete}
 use Rattle.dm_journal.specs.AtRest.{journal_name, journal_place}
@@ -137,6 +137,14 @@ pub record IsAdded (name : List ℕ) (before after : DiskState) : Type 0 where
   pub no_part : IsPart name → ⊥
   pub no_item : IsNoItems name before
 
+-- Somebody took away what stood among the user's files under a name that is no part's and no item's. A crash may bring it back.
+pub record IsTakenAway (name : List ℕ) (before after : DiskState) : Type 0 where
+  pub sound : IsSoundFolder before.files
+  pub state : after.state ≡ before.state
+  pub files : Changes (Removed name) before.files after.files
+  pub no_part : IsPart name → ⊥
+  pub no_item : IsNoItems name before
+
 -- what a run did that ended, and one that was cut
 abbrev pub ended : Run → Piece
 ended run = Ended (recorded_in run) (failed_in run)
@@ -157,6 +165,8 @@ pub data Lives (says : Says) : DiskState → List Piece → Type 0 where
   killed : (start end : Clock) (pieces : List Piece) (run : Run) (t : ℕ) → Lives says (now start) pieces → IsRun says start end run → start.moment ≤ t → t ≤ end.moment → Lives says (end.at t) (cut run ∷ pieces)
   -- between two runs somebody else added a file
   beside : (before after : DiskState) (pieces : List Piece) (name : List ℕ) → Lives says before pieces → IsAdded name before after → Lives says after pieces
+  -- or took one away
+  away : (before after : DiskState) (pieces : List Piece) (name : List ℕ) → Lives says before pieces → IsTakenAway name before after → Lives says after pieces
   -- the power went between two runs
   lost : (before : DiskState) (pieces : List Piece) (image : Image) (disk : DiskState) → Lives says before pieces → MayLeave before image → BeginsWith disk image → Lives says disk pieces
 

@@ -30,6 +30,12 @@ pub data RunsAll (P : Run → Type 0) (brings : ℕ → Bringing) (tells told : 
   by_row : RunsRow tells told says words at before after past past' far far' said → RunsAll P brings tells told says words at before after past past' far far' said
   by_task : RunsWords tells told says words at before after past past' far far' said → RunsAll P brings tells told says words at before after past past' far far' said
 
+-- how far it came
+abbrev pub run_in : {P : Run → Type 0} {brings : ℕ → Bringing} {tells told : Type 0} {says : Says} {words : List (List ℕ)} {at : ℕ} {before after : World} {past past' : Past} {far far' : ℕ} {said : Said} → RunsAll P brings tells told says words at before after past past' far far' said → Run
+run_in (by_list none is) = is.runs.run
+run_in (by_row is) = is.runs.run
+run_in (by_task is) = is.runs.run
+
 -- `told`: the history tells its rows. P is what holds besides, at the moment, of what was said and of how far it came, where it ran as without a history.
 pub record ExplainsAll (P : ℕ → Said → Run → Type 0) (brings : ℕ → Bringing) (tells : Telling) (told : Type 0) (says : Says) (words : List (List ℕ)) (moment : ℕ) (before after : World) (past past' : Past) (far far' : ℕ) (seen seen' : Outputs) (status : ℕ) : Type 0 where
   pub said : Said

@@ -1,3 +1,4 @@
 mod Turned
 mod Opened
 mod Ended
+pub mod Promised
