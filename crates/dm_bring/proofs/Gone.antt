@@ -16,18 +16,18 @@ use Rattle.dm_types.specs.declared.kinds.DiskKind.{DiskKind}
 use Rattle.dm_types.specs.declared.reason.Reason.{Reason}
 use Rattle.dm_types.specs.declared.slices.Slice.{Slice}
 use Rattle.dm_disk_model.specs.Beside.{Besides}
-use Rattle.dm_disk_model.specs.Disk.{History as Clock}
+use Rattle.dm_disk_model.specs.Disk.{History as Clock, IsSoundDisk}
 use Rattle.dm_disk_model.proofs.Beside.{besides_more, besides_stay, besides_then}
 use Rattle.dm_policy.specs.Mode.{mode_by}
 use Rattle.dm_policy.specs.declared.cause.Cause.TheVariants as causes
 use Rattle.dm_edge.specs.Wire.{Closed}
 use Rattle.dm_edge.specs.declared.fault.NetFault.{NetFault}
 use Rattle.dm_item.specs.Lawful.{History, IsLawful, IsOf}
-use Rattle.dm_item.specs.Listing.{item_in}
+use Rattle.dm_item.specs.Listing.{Listing, item_in}
 use Rattle.dm_item.specs.Row.{facts_of, is_complete, is_finishing}
 use Rattle.dm_item.proofs.Undoing.{found-id}
 use Rattle.dm_kept.specs.Files.{Says}
-use Rattle.dm_store.specs.Becomes.{MayTry}
+use Rattle.dm_store.specs.Becomes.{MayTry, run_of}
 use Rattle.dm_store.specs.Keeps.{Keeps, StaysNear, added}
 use Rattle.dm_store.specs.View.{View, spelled}
 use Rattle.dm_store.proofs.Composing.{lawful_none, spelled_then}
@@ -38,19 +38,21 @@ use Rattle.dm_answers.specs.Frame.{Went}
 use Rattle.dm_answers.specs.declared.fault.DeskFault.{DeskFault}
 use Rattle.dm_answers.specs.declared.fault.DeskFault.TheVariants as faults
 use Rattle.dm_attempt.specs.Goes.{DeskGoes}
-use Rattle.dm_attempt.specs.Live.{IsSpared, all_entries}
-use Rattle.dm_attempt.specs.Scene.{Scene}
+use Rattle.dm_attempt.specs.Live.{IsGivenBy, IsSpared, all_entries}
+use Rattle.dm_attempt.specs.Scene.{Scene, changed_all}
 use Rattle.dm_attempt.specs.Shows.{total_by}
 use Rattle.dm_attempt.specs.Trace.{Broken, Close, Done, Trace, with_saves}
 use Rattle.dm_attempt.specs.declared.ended.Ended.{Ended}
 use Rattle.dm_attempt.specs.declared.ended.Ended.TheVariants as ended
-use Rattle.dm_fetch.specs.Attempts.{Attempts, EndedBy, refused, tried, wanting}
+use Rattle.dm_fetch.specs.Attempts.{Asks, Attempts, EndedBy, RoundsOf, refused, tried, wanting}
 use Rattle.dm_fetch.specs.Fetches.{Fetched, Fetches, MayGoOn, again, once}
 use Rattle.dm_fetch.specs.Starts.{BeginRefuses, scene_of}
+use Rattle.dm_fetch.proofs.Rises.{run_item}
 use Rattle.dm_does.specs.Laws.{Waits}
 use Rattle.dm_brings.proofs.Steps.{attempt_step}
 use Rattle.dm_brings.specs.Bringing.{Brought}
-use Rattle.dm_bring.proofs.Names.{finished_back, finished_by, finished_front, given_by, is_given, none_given, recorded_own}
+use Rattle.dm_bring.proofs.Freed.{attempt_free}
+use Rattle.dm_bring.proofs.Names.{AreFree, finished_back, finished_by, finished_front, free_both, given_by, is_given, none_given, own_items, recorded_own}
 use Rattle.dm_bring.specs.Bringing.{BringGoes, MayName}
 
 -- what was added to a list
@@ -84,10 +86,10 @@ going_open desk id goes item there =
     let same : goes.item ≡ item = same_Some goes.item item (sym goes.there ∙ there) in
     subst (λ (i : Item). is_given i ≡ false) same (none_given goes.item.phase (mode_by goes.item.reason (facts_of goes.item)) goes.is)
 
-module _ {D O : Type 0} (tells : Type 0) (clock : D → Clock) (says : O → Says) (far : D → ℕ) (counts : D → DiskKind → ℕ) (net : Type 0) (id : ItemId) (slices at : ℕ) where
+module _ {D O : Type 0} (tells : Type 0) (clock : D → Clock) (says : O → Says) (far : D → ℕ) (counts : D → DiskKind → ℕ) (net : Type 0) (id : ItemId) (slices at : ℕ) (sound : tells → (disk : D) (t : ℕ) → IsSoundDisk ((clock disk).at t)) where
   -- under each name but those a crash leaves what one at the start might have left
   abbrev NamesKept : View D O → View D O → History → Type 0
-  NamesKept old new fetched = tells → (history : History) → IsOf history old.items → Besides (MayName history (fetched ++ new.failed)) (clock old.disk) (clock new.disk)
+  NamesKept old new fetched = tells → (history : History) → IsOf history old.items → Besides (MayName (clock old.disk) history (fetched ++ new.failed) new.broken) (clock old.disk) (clock new.disk)
 
   -- these entries were recorded, and all was kept
   record Gone (old new : View D O) : Type 0 where
@@ -97,6 +99,9 @@ module _ {D O : Type 0} (tells : Type 0) (clock : D → Clock) (says : O → Say
     near : StaysNear (far old.disk) (far new.disk) old new
     later : NoneFell (counts old.disk) (counts new.disk)
     beside : IsOpen old id → NamesKept old new fetched
+    -- the names that were given were free, and where the item has no file yet none was touched but parts
+    named : tells → new.broken ≡ false → AreFree (clock old.disk) fetched
+    parts : IsOpen new id → tells → Besides IsPart (clock old.disk) (clock new.disk)
 
   stayed : (old new : View D O) → new ≡ old → old.broken ≡ false → old.failed ≡ [] → Gone old new
   stayed old new same whole none = subst (Gone old) (sym same) (record {
@@ -116,7 +121,9 @@ module _ {D O : Type 0} (tells : Type 0) (clock : D → Clock) (says : O → Say
     keeps = keeps_same tells clock says old old refl;
     near = λ short. refl;
     later = λ kind. omega arith;
-    beside = λ none told history held. besides_stay (MayName history ([] ++ old.failed)) (clock old.disk) (clock old.disk) refl;
+    beside = λ none told history held. besides_stay (MayName (clock old.disk) history ([] ++ old.failed) old.broken) (clock old.disk) (clock old.disk) refl;
+    named = λ told unbroken other name by. let low = by.is.1 in absurd (omega (arith, low));
+    parts = λ none told. besides_stay IsPart (clock old.disk) (clock old.disk) refl;
   })
 
   not_begun : (old new : View D O) (by : By) (fault : DeskFault) → BeginRefuses tells clock counts old new id by at fault → old.broken ≡ false → old.failed ≡ [] → Gone old new
@@ -134,14 +141,25 @@ module _ {D O : Type 0} (tells : Type 0) (clock : D → Clock) (says : O → Say
     own_there = subst (λ (k : ℕ). item_in k old.items.items ≡ Some item) (sym (found-id id.0 old.items.items item there)) there
 
     module _ (trace : Trace) (close : Close) (recorded failed rest : History) (broken : Bool) (is : all_entries scene trace close ≡ (recorded ++ failed) ++ rest)
-        (goes : DeskGoes tells clock says far counts (IsSpared scene recorded) old new recorded failed broken) where
+        (goes : DeskGoes tells clock says far counts (IsSpared scene recorded) old new recorded failed broken) (freed : tells → new.broken ≡ false → AreFree (clock old.disk) recorded) where
       split : all_entries scene trace close ≡ recorded ++ (failed ++ rest)
       split = is ∙ append_assoc recorded failed rest
 
-      named : IsOpen old id → (history : History) → IsOf history old.items → (name : List ℕ) → IsSpared scene recorded name → MayName history (recorded ++ new.failed) name
-      named none history held name (inl part) = inl part
-      named none history held name (inr given) = inr (finished_by item.id item history recorded new.failed old.items name held (goes.went.lawful history held).lawful
-          (recorded_own scene trace close recorded (failed ++ rest) split) own_there (given_by scene trace close recorded (failed ++ rest) split (none item there) name given))
+      given_name : IsOpen old id → tells → (history : History) → IsOf history old.items → (name : List ℕ) → IsSpared scene recorded name → MayName (clock old.disk) history (recorded ++ new.failed) new.broken name
+      given_name none told history held name (inl part) = inl part
+      given_name none told history held name (inr given) = inr (finished_by (clock old.disk) new.broken item.id item history recorded new.failed old.items name held (goes.went.lawful history held).lawful
+          (recorded_own scene trace close recorded (failed ++ rest) split) own_there (freed told) (given_by scene trace close recorded (failed ++ rest) split (none item there) name given))
+
+      -- the item as the entries leave it
+      there_now : item_in id.0 new.items.items ≡ Some (changed_all recorded item)
+      there_now =
+          ap (λ (v : Listing). item_in id.0 v.items) goes.went.items_are
+          ∙ subst (λ (k : ℕ). item_in k (run_of recorded old.items).items ≡ Some (changed_all recorded item)) (found-id id.0 old.items.items item there)
+          (run_item item.id.0 recorded old.items item (own_items item.id.0 recorded (recorded_own scene trace close recorded (failed ++ rest) split)) own_there)
+
+      only_parts : IsOpen new id → (name : List ℕ) → IsSpared scene recorded name → IsPart name
+      only_parts none name (inl part) = part
+      only_parts none name (inr given) = absurd (false≢true (sym (none (changed_all recorded item) there_now) ∙ given.0))
 
       by_goes : Gone old new
       by_goes = record {
@@ -151,47 +169,58 @@ module _ {D O : Type 0} (tells : Type 0) (clock : D → Clock) (says : O → Say
         near = goes.near;
         later = goes.later;
         beside = λ none told history held.
-            besides_more (IsSpared scene recorded) (MayName history (recorded ++ new.failed)) (clock old.disk) (clock new.disk) (named none history held) (goes.beside told);
+            besides_more (IsSpared scene recorded) (MayName (clock old.disk) history (recorded ++ new.failed) new.broken) (clock old.disk) (clock new.disk) (given_name none told history held) (goes.beside told);
+        named = freed;
+        parts = λ none told. besides_more (IsSpared scene recorded) IsPart (clock old.disk) (clock new.disk) (only_parts none) (goes.beside told);
       }
 
-    over : (trace : Trace) (close : Close) → DeskGoes tells clock says far counts (IsSpared scene (all_entries scene trace close)) old new (all_entries scene trace close) [] false → Gone old new
-    over trace close goes =
-        let all : History = all_entries scene trace close in
-        by_goes trace close all [] [] false (sym (append-nil (all ++ []) ∙ append-nil all)) goes
+    module _ (asked : Trace) (end : Ended) (asks : Asks tells clock says far counts net scene (pass_of item) slices (RoundsOf net end) asked) where
+      over : (saves : List (List Slice)) (close : Close)
+          → DeskGoes tells clock says far counts (IsSpared scene (all_entries scene (with_saves asked saves) close)) old new (all_entries scene (with_saves asked saves) close) [] false → Gone old new
+      over saves close goes =
+          let all : History = all_entries scene (with_saves asked saves) close in
+          by_goes (with_saves asked saves) close all [] [] false (sym (append-nil (all ++ []) ∙ append-nil all)) goes
+          (λ told unbroken. attempt_free tells clock says far counts net sound scene (pass_of item) slices (RoundsOf net end) (with_saves asked saves) asked close refl asks told)
 
-    ended_gone : (trace : Trace) (end : Ended) → EndedBy tells clock says far counts net scene (pass_of item) new before after trace end → Gone old new
-    ended_gone trace ended.Complete ends = over (with_saves trace ends.saves) (Done (total_by scene trace) ends.digest) ends.over.goes
-    ended_gone trace (ended.Stopped reason) ends = over (with_saves trace ends.saves) (Broken ends.cause) ends.over.goes
-    ended_gone trace (ended.Fault faults.NoMemory) ends = over (with_saves trace ends.0) (Broken causes.Memory) ends.1.goes
-    ended_gone trace (ended.Fault (faults.File kind)) ends = over (with_saves trace ends.1.0) (Broken (causes.File kind)) ends.1.1.goes
-    ended_gone trace (ended.Fault (faults.Journal kind)) ends = by_goes ends.1.after ends.1.close ends.1.recorded ends.1.failed ends.1.rest true ends.1.is ends.1.goes
-    ended_gone trace (ended.Fault fault) ends = absurd ends
+    ended_gone : (trace : Trace) (end : Ended) → Asks tells clock says far counts net scene (pass_of item) slices (RoundsOf net end) trace → EndedBy tells clock says far counts net scene (pass_of item) new before after trace end → Gone old new
+    ended_gone trace ended.Complete asks ends = over trace ended.Complete asks ends.saves (Done (total_by scene trace) ends.digest) ends.over.goes
+    ended_gone trace (ended.Stopped reason) asks ends = over trace (ended.Stopped reason) asks ends.saves (Broken ends.cause) ends.over.goes
+    ended_gone trace (ended.Fault faults.NoMemory) asks ends = over trace (ended.Fault faults.NoMemory) asks ends.0 (Broken causes.Memory) ends.1.goes
+    ended_gone trace (ended.Fault (faults.File kind)) asks ends = over trace (ended.Fault (faults.File kind)) asks ends.1.0 (Broken (causes.File kind)) ends.1.1.goes
+    ended_gone trace (ended.Fault (faults.Journal kind)) asks ends =
+        by_goes ends.1.after ends.1.close ends.1.recorded ends.1.failed ends.1.rest true ends.1.is ends.1.goes
+        (λ told unbroken. absurd (false≢true (sym unbroken ∙ ends.1.goes.went.broken_is)))
+    ended_gone trace (ended.Fault fault) asks ends = absurd ends
 
   attempt_gone : (old new : View D O) (was closed : List Closed) (before after : NetFault → ℕ) (by : By) (end : Ended) → old.broken ≡ false → old.failed ≡ []
       → Attempts tells clock says far counts net old new was closed before after id by slices at end → Gone old new
   attempt_gone old new was closed before after by end whole none (wanting end_is same still) = stayed old new same whole none
   attempt_gone old new was closed before after by end whole none (refused fault end_is refuses still) = not_begun old new by fault refuses whole none
-  attempt_gone old new was closed before after by end whole none (tried found) = ended_gone old new was before after by found.item found.there found.is.trace end found.is.ends
+  attempt_gone old new was closed before after by end whole none (tried found) = ended_gone old new was before after by found.item found.there found.is.trace end found.is.asks found.is.ends
 
   -- one behind another, that stopped
   module _ (old mid new : View D O) (one : Gone old mid) (two : Gone mid new) (whole : mid.broken ≡ false) (none : mid.failed ≡ []) (goes : MayGoOn mid id) where
     first : Went old mid one.fetched [] false
     first = subst (λ (b : Bool). Went old mid one.fetched [] b) whole (subst (λ (h : History). Went old mid one.fetched h mid.broken) none one.went)
 
-    front_name : (history : History) (name : List ℕ) → MayName history (one.fetched ++ mid.failed) name → MayName history ((one.fetched ++ two.fetched) ++ new.failed) name
+    front_name : (history : History) (name : List ℕ) → MayName (clock old.disk) history (one.fetched ++ mid.failed) mid.broken name → MayName (clock old.disk) history ((one.fetched ++ two.fetched) ++ new.failed) new.broken name
     front_name history name (inl part) = inl part
     front_name history name (inr is) =
-        let alone = subst (λ (h : History). MayName history h name) (ap (λ (h : History). one.fetched ++ h) none ∙ append-nil one.fetched) (inr is) in
-        subst (λ (h : History). MayName history h name) (sym (append_assoc one.fetched two.fetched new.failed)) (wider history name alone)
+        let alone = subst (λ (h : History). MayName (clock old.disk) history h mid.broken name) (ap (λ (h : History). one.fetched ++ h) none ∙ append-nil one.fetched) (inr is) in
+        subst (λ (h : History). MayName (clock old.disk) history h new.broken name) (sym (append_assoc one.fetched two.fetched new.failed)) (wider history name alone)
       where
-        wider : (before : History) (under : List ℕ) → MayName before one.fetched under → MayName before (one.fetched ++ (two.fetched ++ new.failed)) under
+        wider : (before : History) (under : List ℕ) → MayName (clock old.disk) before one.fetched mid.broken under → MayName (clock old.disk) before (one.fetched ++ (two.fetched ++ new.failed)) new.broken under
         wider before under (inl part) = inl part
-        wider before under (inr finished) = inr (finished_front before one.fetched (two.fetched ++ new.failed) under finished)
+        wider before under (inr finished) = inr (finished_front (clock old.disk) mid.broken new.broken before one.fetched (two.fetched ++ new.failed) under whole finished)
 
-    back_name : (history : History) (name : List ℕ) → MayName (history ++ one.fetched) (two.fetched ++ new.failed) name → MayName history ((one.fetched ++ two.fetched) ++ new.failed) name
-    back_name history name (inl part) = inl part
-    back_name history name (inr is) =
-        subst (λ (h : History). MayName history h name) (sym (append_assoc one.fetched two.fetched new.failed)) (inr (finished_back history one.fetched (two.fetched ++ new.failed) name is))
+    back_name : tells → (history : History) (name : List ℕ) → MayName (clock mid.disk) (history ++ one.fetched) (two.fetched ++ new.failed) new.broken name → MayName (clock old.disk) history ((one.fetched ++ two.fetched) ++ new.failed) new.broken name
+    back_name told history name (inl part) = inl part
+    back_name told history name (inr is) =
+        subst (λ (h : History). MayName (clock old.disk) history h new.broken name) (sym (append_assoc one.fetched two.fetched new.failed))
+        (inr (finished_back (clock old.disk) (clock mid.disk) new.broken history one.fetched (two.fetched ++ new.failed) name (one.named told whole) (one.parts (going_open mid id goes) told) is))
+
+    named_both : tells → new.broken ≡ false → AreFree (clock old.disk) (one.fetched ++ two.fetched)
+    named_both told unbroken = free_both (clock old.disk) (clock mid.disk) one.fetched two.fetched (one.parts (going_open mid id goes) told) (one.named told whole) (two.named told unbroken)
 
     both_gone : Gone old new
     both_gone = record {
@@ -201,10 +230,13 @@ module _ {D O : Type 0} (tells : Type 0) (clock : D → Clock) (says : O → Say
       near = near_both far old mid new one.fetched two.fetched two.went.list_is first one.near two.near;
       later = λ kind. let a = one.later kind in let b = two.later kind in omega (arith, a, b);
       beside = λ is_open told history held.
-          besides_then (MayName history ((one.fetched ++ two.fetched) ++ new.failed)) (clock old.disk) (clock mid.disk) (clock new.disk)
-          (besides_more (MayName history (one.fetched ++ mid.failed)) (MayName history ((one.fetched ++ two.fetched) ++ new.failed)) (clock old.disk) (clock mid.disk) (front_name history) (one.beside is_open told history held))
-          (besides_more (MayName (history ++ one.fetched) (two.fetched ++ new.failed)) (MayName history ((one.fetched ++ two.fetched) ++ new.failed)) (clock mid.disk) (clock new.disk) (back_name history)
+          let all : List ℕ → Type 0 = MayName (clock old.disk) history ((one.fetched ++ two.fetched) ++ new.failed) new.broken in
+          besides_then all (clock old.disk) (clock mid.disk) (clock new.disk)
+          (besides_more (MayName (clock old.disk) history (one.fetched ++ mid.failed) mid.broken) all (clock old.disk) (clock mid.disk) (front_name history) (one.beside is_open told history held))
+          (besides_more (MayName (clock mid.disk) (history ++ one.fetched) (two.fetched ++ new.failed) new.broken) all (clock mid.disk) (clock new.disk) (back_name told history)
           (two.beside (going_open mid id goes) told (history ++ one.fetched) (one.went.lawful history held)));
+      named = named_both;
+      parts = λ is_open told. besides_then IsPart (clock old.disk) (clock mid.disk) (clock new.disk) (one.parts (going_open mid id goes) told) (two.parts is_open told);
     }
 
   fetch_gone : (new : View D O) (now : List Closed) (after : NetFault → ℕ) (end : Ended) (old : View D O) (was : List Closed) (before : NetFault → ℕ) (by : By) (more : ℕ) → old.broken ≡ false → old.failed ≡ []

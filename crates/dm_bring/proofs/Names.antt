@@ -1,8 +1,11 @@
 -- Which name an attempt gives to its file: the entry that says it stands among those of the attempt.
 use Rattle.std.proofs.Common.{◌≡◌, ◌⊎◌, inl, inr, ℕ, cond, Bool, true, false, ◌||◌, IsTrue, List, [], ◌∷◌, ◌++◌, map, Option, Some, None, refl, sym, ◌∙◌, ap, subst, append_assoc}
 use Rattle.std.specs.List.{AllByRecursion}
+use Rattle.std.specs.Prelude.{Contains}
 use Rattle.std.proofs.lemmas.Bool.{false≢true}
+use Rattle.std.proofs.lemmas.List.Elements.{Contains-append_cases, Contains-append_left}
 use Rattle.std.proofs.lemmas.Option.{none-some}
+use Rattle.dm_types.specs.Name.{IsPart}
 use Rattle.dm_types.specs.declared.entry.Entry.{Entry}
 use Rattle.dm_types.specs.declared.entry.Entry.TheVariants as entries
 use Rattle.dm_types.specs.declared.item.Item.{Item}
@@ -12,6 +15,8 @@ use Rattle.dm_types.specs.declared.item.Phase.TheVariants as phases
 use Rattle.dm_types.specs.declared.kinds.By.{By}
 use Rattle.dm_types.specs.declared.kinds.Mode.{Mode}
 use Rattle.dm_types.specs.declared.slices.Slice.{Slice}
+use Rattle.dm_disk_model.specs.Beside.{Besides}
+use Rattle.dm_disk_model.specs.Disk.{History as Clock}
 use Rattle.dm_policy.specs.Cause.{reason_of_cause}
 use Rattle.dm_policy.specs.Mode.{is_immediate}
 use Rattle.dm_item.specs.Lawful.{History, IsLawful, IsOf, items_of}
@@ -22,8 +27,10 @@ use Rattle.dm_attempt.specs.Live.{IsGivenBy, all_entries}
 use Rattle.dm_attempt.specs.Scene.{Scene, changed_all}
 use Rattle.dm_attempt.specs.Trace.{Broken, Close, Done, Tale, Trace, close_entries, entries_behind, told_entries}
 use Rattle.dm_fetch.proofs.Begun.{renewal, start}
-use Rattle.dm_does.specs.Leaving.{IsFinished}
+use Rattle.dm_fetch.proofs.Rises.{Own}
+use Rattle.dm_does.specs.Leaving.{IsFinished, IsNamedBy, WasFree}
 use Rattle.dm_does.proofs.Behind.{lawful_front}
+use Rattle.dm_does.proofs.Touching.{free_before}
 use Rattle.dm_bring.proofs.Fronts.{Changes, EachFront, at_front, both, each_map, fronts, there_behind}
 
 -- the item has a file, or gets it
@@ -117,10 +124,23 @@ module _ {D O : Type 0} (scene : Scene D O) (trace : Trace) (close : Close) wher
   pub recorded_own : (recorded more : History) → all_entries scene trace close ≡ recorded ++ more → AllByRecursion (Changes scene.item.id.0) recorded
   recorded_own recorded more is = fronts scene.item.id.0 recorded more (subst (AllByRecursion (Changes scene.item.id.0)) is all_own)
 
+-- each name that these entries give, and that is no part's, was free at the start
+abbrev pub AreFree : Clock → History → Type 0
+AreFree from recorded = (id : ItemId) (name : List ℕ) → IsNamedBy recorded id name → (IsPart name → ⊥) → WasFree from name
+
+by_more : (all front back : History) (id : ItemId) (name : List ℕ) → all ≡ front ++ back → IsNamedBy front id name → IsNamedBy all id name
+by_more all front back id name is by = record {
+  key = by.key;
+  address = by.address;
+  total = by.total;
+  modified = by.modified;
+  is = subst (λ (h : History). Contains h (entries.Described id by.key by.address by.total name by.modified)) (sym is) (Contains-append_left front back (entries.Described id by.key by.address by.total name by.modified) by.is);
+}
+
 -- and it stands in the log so
-pub finished_by : (id : ItemId) (item : Item) (history recorded rest : History) (v : Listing) (name : List ℕ) → IsOf history v → IsLawful (history ++ recorded) → AllByRecursion (Changes id.0) recorded → item_in id.0 v.items ≡ Some item
-    → Gives id item recorded name → IsFinished history (recorded ++ rest) name
-finished_by id item history recorded rest v name is lawful own there gives =
+pub finished_by : (from : Clock) (broken : Bool) (id : ItemId) (item : Item) (history recorded rest : History) (v : Listing) (name : List ℕ) → IsOf history v → IsLawful (history ++ recorded) → AllByRecursion (Changes id.0) recorded → item_in id.0 v.items ≡ Some item
+    → (broken ≡ false → AreFree from recorded) → Gives id item recorded name → IsFinished IsPart from history (recorded ++ rest) broken name
+finished_by from broken id item history recorded rest v name is lawful own there free gives =
     let behind : History = entries.Finishing id gives.total ∷ gives.back in
     let whole : IsLawful ((history ++ gives.front) ++ behind) = subst IsLawful (ap (λ (h : History). history ++ h) gives.is ∙ sym (append_assoc history gives.front behind)) lawful in
     record {
@@ -132,12 +152,29 @@ finished_by id item history recorded rest v name is lawful own there gives =
       item = changed_all gives.front item;
       there = there_behind id.0 gives.front history v item is (lawful_front (history ++ gives.front) behind whole) (fronts id.0 gives.front behind (subst (AllByRecursion (Changes id.0)) gives.is own)) there;
       named = gives.named;
+      free = λ unbroken no_part by. free unbroken id name (by_more recorded gives.front behind id name gives.is by) no_part;
     }
 
 -- One part of a log behind another.
 
-pub finished_front : (history one two : History) (name : List ℕ) → IsFinished history one name → IsFinished history (one ++ two) name
-finished_front history one two name is = record {
+-- a name that one of both gives was free before both
+free_then : (from mid : Clock) (one two : History) (id : ItemId) (name : List ℕ) → Besides IsPart from mid → (IsPart name → ⊥) → (IsNamedBy one id name → WasFree from name) → (IsNamedBy two id name → WasFree mid name) → IsNamedBy (one ++ two) id name
+    → WasFree from name
+free_then from mid one two id name beside no_part first second by = either (Contains-append_cases one two entry by.is)
+  where
+    entry : Entry
+    entry = entries.Described id by.key by.address by.total name by.modified
+
+    either : Contains one entry ⊎ Contains two entry → WasFree from name
+    either (inl here) = first (record { key = by.key; address = by.address; total = by.total; modified = by.modified; is = here })
+    either (inr later) = free_before IsPart from mid name beside no_part (second (record { key = by.key; address = by.address; total = by.total; modified = by.modified; is = later }))
+
+pub free_both : (from mid : Clock) (one two : History) → Besides IsPart from mid → AreFree from one → AreFree mid two → AreFree from (one ++ two)
+free_both from mid one two beside first second id name by no_part =
+    free_then from mid one two id name beside no_part (λ own. first id name own no_part) (λ own. second id name own no_part) by
+
+pub finished_front : (from : Clock) (first broken : Bool) (history one two : History) (name : List ℕ) → first ≡ false → IsFinished IsPart from history one first name → IsFinished IsPart from history (one ++ two) broken name
+finished_front from first broken history one two name whole is = record {
   front = is.front;
   id = is.id;
   total = is.total;
@@ -146,10 +183,11 @@ finished_front history one two name is = record {
   item = is.item;
   there = is.there;
   named = is.named;
+  free = λ unbroken no_part by. is.free whole no_part by;
 }
 
-pub finished_back : (history one two : History) (name : List ℕ) → IsFinished (history ++ one) two name → IsFinished history (one ++ two) name
-finished_back history one two name is = record {
+pub finished_back : (from mid : Clock) (broken : Bool) (history one two : History) (name : List ℕ) → AreFree from one → Besides IsPart from mid → IsFinished IsPart mid (history ++ one) two broken name → IsFinished IsPart from history (one ++ two) broken name
+finished_back from mid broken history one two name free beside is = record {
   front = one ++ is.front;
   id = is.id;
   total = is.total;
@@ -158,7 +196,13 @@ finished_back history one two name is = record {
   item = is.item;
   there = subst (λ (h : History). item_in is.id.0 (items_of h) ≡ Some is.item) (append_assoc history one is.front) is.there;
   named = is.named;
+  free = λ unbroken no_part by. free_then from mid one is.front is.id name beside no_part (λ own. free is.id name own no_part) (λ own. is.free unbroken no_part own) by;
 }
+
+-- entries that change an item change no other
+pub own_items : (k : ℕ) (list : History) → AllByRecursion (Changes k) list → AllByRecursion (Own k) list
+own_items k [] own = tt
+own_items k (entry ∷ list) own = (own.0.items, own_items k list own.1)
 
 -- an item that goes on by itself has no file
 pub none_given : (phase : Phase) (mode : Mode) → IsTrue (is_immediate (mode_in phase mode)) → (is_finishing phase || is_complete phase) ≡ false

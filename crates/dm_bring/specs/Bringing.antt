@@ -1,5 +1,5 @@
 -- What the step between a command's own part and what it says does: an item is brought, or nothing is done.
-use Rattle.std.specs.Prelude.{◌≡◌, ◌⊎◌, ◌≤◌, ℕ, false, List, ◌++◌}
+use Rattle.std.specs.Prelude.{◌≡◌, ◌⊎◌, ◌≤◌, ℕ, Bool, false, List, ◌++◌}
 use Rattle.dm_types.specs.Faults.{NoneFell}
 use Rattle.dm_types.specs.Name.{IsPart}
 use Rattle.dm_types.specs.declared.item.ItemId.{ItemId}
@@ -25,9 +25,9 @@ use Rattle.dm_fetch.specs.Completes.{IsSmooth}
 use Rattle.dm_brings.specs.Bringing.{Brought, course_behind}
 use Rattle.dm_brings.specs.Completed.{EndsWell}
 
--- a part's name, or that of an item of which these entries say that it has its whole content, behind this history
-abbrev pub MayName : History → History → List ℕ → Type 0
-MayName history tried name = IsPart name ⊎ IsFinished history tried name
+-- a part's name, or that of an item of which these entries say that it has its whole content, behind this history; where they gave it the name themselves, that was free at the start
+abbrev pub MayName : Clock → History → History → Bool → List ℕ → Type 0
+MayName start history tried broken name = IsPart name ⊎ IsFinished IsPart start history tried broken name
 
 -- What the calls on the desk kept while the item was brought. Where it waited at the start, no name is touched but parts and the name of a file that was finished.
 pub record BringGoes {D O : Type 0} (tells : Type 0) (clock : D → Clock) (counts : D → DiskKind → ℕ) (far : D → ℕ) (says : O → Says) (old new : View D O) (id : ItemId) (fetched : History) : Type 0 where
@@ -35,7 +35,7 @@ pub record BringGoes {D O : Type 0} (tells : Type 0) (clock : D → Clock) (coun
   pub keeps : Keeps tells clock says old new
   pub near : StaysNear (far old.disk) (far new.disk) old new
   pub later : NoneFell (counts old.disk) (counts new.disk)
-  pub beside : Waits id old.items.items → tells → (history : History) → IsOf history old.items → Besides (MayName history (fetched ++ new.failed)) (clock old.disk) (clock new.disk)
+  pub beside : Waits id old.items.items → tells → (history : History) → IsOf history old.items → Besides (MayName (clock old.disk) history (fetched ++ new.failed) new.broken) (clock old.disk) (clock new.disk)
 
 -- The item was brought, and so the course goes on. Where it waited and nothing stood in the way, it is complete, or memory was wanting, or the content, of which no reply told how long it is, has
 -- another sum than the stated one; and that is said of it.

@@ -1,11 +1,12 @@
 -- What a run leaves on a disk that tells what it holds: what a crash at any moment leaves, the user's files, and what the next run begins with.
-use Rattle.std.specs.Prelude.{◌≡◌, ◌⊎◌, ℕ, true, false, List, [], ◌∷◌, ◌++◌, Some}
+use Rattle.std.specs.Prelude.{◌≡◌, ◌⊎◌, ℕ, Bool, true, false, List, [], ◌∷◌, ◌++◌, Contains, Option, Some, None}
 use Rattle.dm_types.specs.Limits.{most_items}
 use Rattle.dm_types.specs.Name.{IsPart}
 use Rattle.dm_types.specs.declared.entry.Entry.TheVariants as entries
 use Rattle.dm_types.specs.declared.item.Item.{Item}
 use Rattle.dm_types.specs.declared.item.ItemId.{ItemId}
-use Rattle.dm_disk_model.specs.Beside.{Besides}
+use Rattle.dm_types.specs.declared.item.Key.{Key}
+use Rattle.dm_disk_model.specs.Beside.{Besides, WasUnder}
 use Rattle.dm_disk_model.specs.Disk.{DiskState, Image, History as Clock, StandsNot, bytes_at, now}
 use Rattle.dm_disk_model.specs.Moments.{LeavesOnly, Throughout}
 use Rattle.dm_item.specs.Lawful.{History, items_of}
@@ -18,9 +19,9 @@ use Rattle.dm_kept.specs.Recovery.{Found, Through}
 use Rattle.dm_kept.specs.Spelled.{Records}
 use Rattle.dm_report.specs.declared.verdict.Verdict.{Verdict}
 use Rattle.dm_report.specs.declared.verdict.Verdict.TheVariants.{Damaged}
-use Rattle.dm_answers.specs.Reads.{IsGivenName}
+use Rattle.dm_answers.specs.Reads.{IsGivenName, IsSettledName}
 use Rattle.dm_answers.specs.Opening.{IsNear, IsUnchanged, LeavesSome, ReadsDamage}
-use Rattle.dm_does.specs.Log.{Run, Untouched, Unread, Unopened, Opened, found_in, kept_of, tried_in, tried_of}
+use Rattle.dm_does.specs.Log.{Run, Untouched, Unread, Unopened, Opened, broken_in, found_in, kept_of, tried_in, tried_of}
 
 -- Of each disk, whatever it held.
 
@@ -35,8 +36,21 @@ RunLeaves start end Unread = LeavesOnly start end (LeavesUnread (now start))
 RunLeaves start end (Unopened found recorded failed rest) = Throughout start end (LeavesSome (now start) found (recorded ++ (failed ++ rest)))
 RunLeaves start end (Opened log) = Throughout start end (LeavesSome (now start) log.found (tried_of log))
 
--- The run tried to record that the item with this name has its whole content: from there on the name may be given to it.
-pub record IsFinished (found tried : History) (name : List ℕ) : Type 0 where
+-- one of these entries gives the item the name
+pub record IsNamedBy (tried : History) (id : ItemId) (name : List ℕ) : Type 0 where
+  pub key : Key
+  pub address : List ℕ
+  pub total : Option ℕ
+  pub modified : List ℕ
+  pub is : Contains tried (entries.Described id key address total name modified)
+
+-- a crash at the start might have left nothing under the name
+abbrev pub WasFree : Clock → List ℕ → Type 0
+WasFree start name = WasUnder (now start).files name None
+
+-- The run tried to record that the item with this name has its whole content: from there on the name may be given to it. Where the run gave the item this name itself, the name was free at the
+-- start; but this isn't said of the spared names, nor where a call on the journal or in a publication failed.
+pub record IsFinished (spared : List ℕ → Type 0) (start : Clock) (found tried : History) (broken : Bool) (name : List ℕ) : Type 0 where
   pub front : History
   pub id : ItemId
   pub total : ℕ
@@ -45,14 +59,19 @@ pub record IsFinished (found tried : History) (name : List ℕ) : Type 0 where
   pub item : Item
   pub there : item_in id.0 (items_of (found ++ front)) ≡ Some item
   pub named : item.name ≡ Some name
+  pub free : broken ≡ false → (spared name → ⊥) → IsNamedBy front id name → WasFree start name
 
--- The name is a part's; or that of an item that an earlier run left there, whose part stands at the start and whose name is free; or of one that this run finished.
-abbrev pub IsTouched : Clock → History → History → List ℕ → Type 0
-IsTouched start found tried name = IsPart name ⊎ (IsGivenName (λ (clock : Clock). clock) start name ⊎ IsFinished found tried name)
+-- The name is a part's; or that of an item that an earlier run left there, whose part stands at the start and whose name is free.
+abbrev pub IsLeftName : Clock → List ℕ → Type 0
+IsLeftName start = IsSettledName (λ (clock : Clock). clock) start
+
+-- So it is, or it is the name of an item that this run finished.
+abbrev pub IsTouched : Clock → Run → List ℕ → Type 0
+IsTouched start run name = IsPart name ⊎ (IsGivenName (λ (clock : Clock). clock) start name ⊎ IsFinished (IsLeftName start) start (found_in run) (tried_in run) (broken_in run) name)
 
 -- each other name has in each image what an image at the start had there
 abbrev pub LeavesFiles : Clock → Clock → Run → Type 0
-LeavesFiles start end run = Besides (IsTouched start (found_in run) (tried_in run)) start end
+LeavesFiles start end run = Besides (IsTouched start run) start end
 
 -- what reads as the journal at the end is what was found, and what was recorded behind it
 abbrev pub HoldsLog : Clock → Run → Type 0

@@ -1,5 +1,5 @@
 -- How far a run came, and what it recorded.
-use Rattle.std.specs.Prelude.{Bool, [], ◌∷◌, ◌++◌}
+use Rattle.std.specs.Prelude.{Bool, false, [], ◌∷◌, ◌++◌}
 use Rattle.dm_types.specs.declared.entry.Entry.TheVariants as entries
 use Rattle.dm_item.specs.Lawful.{History}
 
@@ -72,3 +72,8 @@ failed_in Untouched = []
 failed_in Unread = []
 failed_in (Unopened found recorded failed rest) = failed
 failed_in (Opened log) = log.failed
+
+-- whether a call on the journal or in a publication failed behind the opening
+abbrev pub broken_in : Run → Bool
+broken_in (Opened log) = log.broken
+broken_in _ = false

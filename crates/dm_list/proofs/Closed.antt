@@ -57,7 +57,7 @@ module _ {D : Type 0} (P : Run → Type 0) (shut : (run : Run) → IsClosed run 
     leaves = λ told. record {
       moments = none_read_leaves tells clock far says start end none told;
       ends = tt;
-      files = besides_same (IsTouched (clock start) [] []) (clock start) (clock end) (none.files told);
+      files = besides_same (IsTouched (clock start) Unread) (clock start) (clock end) (none.files told);
       holds = tt;
       damage = damage told;
       near = λ short. none.near;
@@ -80,7 +80,7 @@ module _ {D : Type 0} (P : Run → Type 0) (shut : (run : Run) → IsClosed run 
     leaves = λ told. record {
       moments = (h.is.runs told).leaves;
       ends = kept_any says says_all (Through (h.found ++ h.recorded) h.failed) (now (clock end)) (h.is.kept told false tt);
-      files = opening_touches clock start (clock end) h.found (h.recorded ++ (h.failed ++ h.rest)) (beside told);
+      files = opening_touches clock start (clock end) (Unopened h.found h.recorded h.failed h.rest) (beside told);
       holds = tt;
       damage = damage;
       near = h.is.near;

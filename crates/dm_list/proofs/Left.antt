@@ -1,4 +1,7 @@
 -- What a job leaves that was done on a list that was opened.
+use Rattle.std.specs.Prelude.{Contains}
+use Rattle.std.proofs.lemmas.Bool.{false≢true}
+use Rattle.std.proofs.lemmas.List.Elements.{Contains-append_cases}
 use Rattle.std.proofs.Common.{◌≡◌, ◌⊎◌, inl, inr, ℕ, ◌+◌, Bool, true, false, List, [], ◌∷◌, ◌++◌, Option, Some, None, refl, sym, ◌∙◌, ap, subst, append_assoc, arith}
 use Rattle.dm_types.specs.Faults.{NoneFell, NoneRose}
 use Rattle.dm_types.specs.Name.{IsPart}
@@ -34,10 +37,12 @@ use Rattle.dm_store.specs.View.{View, spelled}
 use Rattle.dm_store.proofs.Composing.{spelled_then}
 use Rattle.dm_answers.specs.Frame.{Went}
 use Rattle.dm_answers.specs.Opening.{IsNear}
+use Rattle.dm_answers.specs.Reads.{IsSettledName}
 use Rattle.dm_attempt.specs.Goes.{DeskGoes}
 use Rattle.dm_attempt.proofs.Goes.{goes_then}
 use Rattle.dm_brings.specs.Bringing.{brings_of}
 use Rattle.dm_bring.specs.Bringing.{MayName, WasBrought}
+use Rattle.dm_bring.proofs.Freed.{GiveNone, no_name, none_both}
 use Rattle.dm_does.specs.declared.course.Course.{Course}
 use Rattle.dm_does.specs.declared.course.Course.TheVariants.{Ends, Brings}
 use Rattle.dm_does.specs.declared.job.Job.{Job}
@@ -45,7 +50,7 @@ use Rattle.dm_does.specs.Answering.{Bringing, Came, Works, all, broke, fell, giv
 use Rattle.dm_does.specs.Deciding.{Did}
 use Rattle.dm_does.specs.Doing.{Doing, does}
 use Rattle.dm_does.specs.Laws.{IsOfList}
-use Rattle.dm_does.specs.Leaving.{IsFinished, IsTouched, KeepsAll, Leaves, ShowsDamage}
+use Rattle.dm_does.specs.Leaving.{IsFinished, IsLeftName, IsNamedBy, IsTouched, KeepsAll, Leaves, ShowsDamage}
 use Rattle.dm_does.specs.Log.{Log, Opened, opened_of, tried_of}
 use Rattle.dm_does.specs.Saying.{said_by, said_in, said_interrupted, said_of}
 use Rattle.dm_does.specs.Session.{IsSession, log_of}
@@ -53,13 +58,14 @@ use Rattle.dm_does.specs.World.{IsLater, World}
 use Rattle.dm_does.proofs.Fitting.{does_fit}
 use Rattle.dm_does.proofs.Openings.{opening_done, tried_later}
 use Rattle.dm_does.proofs.Sessions.{session_ends, session_holds, session_keeps, session_leaves}
-use Rattle.dm_does.proofs.Touching.{opening_touches}
+use Rattle.dm_does.proofs.Touching.{free_before, opening_touches, settled_left}
 use Rattle.dm_list.specs.Completing.{BringsWell}
 use Rattle.dm_list.specs.Running.{JobWorked, world_of}
 use Rattle.dm_list.specs.Working.{CallGoes, Worked}
 use Rattle.dm_list.proofs.Coming as coming
 use Rattle.dm_list.proofs.Coming.{carried, cut, over, wanting}
 use Rattle.dm_list.proofs.Going.{goes_one, goes_swept}
+use Rattle.dm_list.proofs.Unnamed.{entries_none, opening_none}
 
 any_moment : (P : DiskState → Type 0) (start end : Clock) → Throughout start end P → Throughout start end (λ disk. Unit {0})
 any_moment P start end through = weaker start end P (λ disk. Unit {0}) (λ disk is. tt) through
@@ -94,9 +100,18 @@ never_damaged start end brings tells at before after doing log said of_list (bro
 never_damaged start end brings tells at before after doing log said of_list (stopped whole none_failed some is) = shows_as start end said (only verdicts.NoMemory) is tt
 never_damaged start end brings tells at before after doing log said of_list (unsaid whole none_failed went is) = shows_as start end said (only verdicts.NoMemory) is tt
 
--- an item that was finished behind a longer history
-finished_behind : (found front tried : History) (name : List ℕ) → IsFinished (found ++ front) tried name → IsFinished found (front ++ tried) name
-finished_behind found front tried name is = record {
+-- entries of which the first give no name give those that the others give
+named_later : (front more : History) (id : ItemId) (name : List ℕ) → GiveNone front → IsNamedBy (front ++ more) id name → IsNamedBy more id name
+named_later front more id name none by = either (Contains-append_cases front more (entries.Described id by.key by.address by.total name by.modified) by.is)
+  where
+    either : Contains front (entries.Described id by.key by.address by.total name by.modified) ⊎ Contains more (entries.Described id by.key by.address by.total name by.modified) → IsNamedBy more id name
+    either (inl here) = absurd (no_name front (entries.Described id by.key by.address by.total name by.modified) none here refl)
+    either (inr later) = record { key = by.key; address = by.address; total = by.total; modified = by.modified; is = later }
+
+-- an item that was finished behind a longer history, of which the first entries give no name
+finished_behind : (start mid : Clock) (first broken : Bool) (found front tried : History) (name : List ℕ) → (broken ≡ false → first ≡ false) → GiveNone front → Besides (IsLeftName start) start mid → IsFinished IsPart mid (found ++ front) tried first name
+    → IsFinished (IsLeftName start) start found (front ++ tried) broken name
+finished_behind start mid first broken found front tried name whole none beside is = record {
   front = front ++ is.front;
   id = is.id;
   total = is.total;
@@ -105,6 +120,8 @@ finished_behind found front tried name is = record {
   item = is.item;
   there = subst (λ (h : History). item_in is.id.0 (items_of h) ≡ Some is.item) (append_assoc found front is.front) is.there;
   named = is.named;
+  free = λ unbroken apart by.
+      free_before (IsLeftName start) start mid name beside apart (is.free (whole unbroken) (λ (part : IsPart name). apart (inl part)) (named_later front is.front is.id name none by));
 }
 
 module _ {D O : Type 0} (tells : Type 0) (clock : D → Clock) (counts : D → DiskKind → ℕ) (far : D → ℕ) (says : O → Says) (net : Type 0) (origin : O) (job : Job) (at : ℕ) (start end : D) (was closed : List Closed) (before after : NetFault → ℕ) (said : Said)
@@ -119,7 +136,7 @@ module _ {D O : Type 0} (tells : Type 0) (clock : D → Clock) (counts : D → D
   worked = w.worked
 
   abbrev Spared : List ℕ → Type 0
-  Spared = IsTouched (clock start) found (tried_of log)
+  Spared = IsTouched (clock start) (Opened log)
 
   spared_part : (name : List ℕ) → IsPart name → Spared name
   spared_part name part = inl part
@@ -161,13 +178,30 @@ module _ {D O : Type 0} (tells : Type 0) (clock : D → Clock) (counts : D → D
         ∙ ap (λ (h : History). h ++ worked.between.failed) (sym (coming.more_is tells clock counts far says net origin job at start end was closed before after said w (doing.entries ++ fetched) worked.between.failed worked.between.broken went_all))
         ∙ ap (λ (h : History). log.more ++ h) (sym (coming.failed_here tells clock counts far says net origin job at start end was closed before after said w (doing.entries ++ fetched) worked.between.failed worked.between.broken went_all)))
 
+    -- where the list isn't broken at the end it wasn't behind what was brought
+    whole_between : (broken : Bool) → worked.between.broken ≡ broken → log.broken ≡ false → worked.between.broken ≡ false
+    whole_between false is unbroken = is
+    whole_between true is unbroken = absurd (false≢true (sym unbroken ∙ ap (λ (v : View D O). v.broken) (worked.stays is) ∙ is))
+
+    front_none : GiveNone (w.opened.list ++ doing.entries)
+    front_none =
+        none_both w.opened.list doing.entries (opening_none tells (clock start) (clock w.opened.disk) at found w.opened.list [] w.is.tried)
+        (entries_none w.opened.items doing.entries doing.course (coming.fits tells clock counts far says net origin job at start end was closed before after said w).entries)
+
+    -- up to where the item was brought
+    up_to_brought : tells → Besides (IsLeftName (clock start)) (clock start) (clock worked.decided.disk)
+    up_to_brought told =
+        besides_then (IsLeftName (clock start)) (clock start) (clock w.opened.disk) (clock worked.decided.disk)
+        (besides_more (IsSettledName clock start) (IsLeftName (clock start)) (clock start) (clock w.opened.disk) (settled_left clock start) (w.beside told))
+        (besides_more IsPart (IsLeftName (clock start)) (clock w.opened.disk) (clock worked.decided.disk) (λ name part. inl part) (worked.own.beside told))
+
     -- the name of the item that was brought is one that the run touches
-    named : (name : List ℕ) → MayName ((found ++ w.opened.list) ++ doing.entries) (fetched ++ worked.between.failed) name → Spared name
-    named name (inl part) = inl part
-    named name (inr finished) =
-        inr (inr (subst (λ (h : History). IsFinished found h name) tried_all
-        (finished_behind found (w.opened.list ++ doing.entries) (fetched ++ worked.between.failed) name
-        (subst (λ (h : History). IsFinished h (fetched ++ worked.between.failed) name) (append_assoc found w.opened.list doing.entries) finished))))
+    named : tells → (name : List ℕ) → MayName (clock worked.decided.disk) ((found ++ w.opened.list) ++ doing.entries) (fetched ++ worked.between.failed) worked.between.broken name → Spared name
+    named told name (inl part) = inl part
+    named told name (inr finished) =
+        inr (inr (subst (λ (h : History). IsFinished (IsLeftName (clock start)) (clock start) found h log.broken name) tried_all
+        (finished_behind (clock start) (clock worked.decided.disk) worked.between.broken log.broken found (w.opened.list ++ doing.entries) (fetched ++ worked.between.failed) name (whole_between worked.between.broken refl) front_none (up_to_brought told)
+        (subst (λ (h : History). IsFinished IsPart (clock worked.decided.disk) h (fetched ++ worked.between.failed) worked.between.broken name) (append_assoc found w.opened.list doing.entries) finished))))
 
     brought_chain : Chain
     brought_chain =
@@ -179,7 +213,7 @@ module _ {D O : Type 0} (tells : Type 0) (clock : D → Clock) (counts : D → D
           near = b.goes.near;
           later = b.goes.later;
           beside = λ told.
-              besides_more (MayName ((found ++ w.opened.list) ++ doing.entries) (fetched ++ worked.between.failed)) Spared (clock worked.decided.disk) (clock worked.between.disk) named
+              besides_more (MayName (clock worked.decided.disk) ((found ++ w.opened.list) ++ doing.entries) (fetched ++ worked.between.failed) worked.between.broken) Spared (clock worked.decided.disk) (clock worked.between.disk) (named told)
               (b.goes.beside (coming.carried_waits tells clock counts far says net origin job at start end was closed before after said w id slices is there) told ((found ++ w.opened.list) ++ doing.entries)
               (coming.carried_of tells clock counts far says net origin job at start end was closed before after said w there));
         }))
@@ -222,10 +256,9 @@ module _ {D O : Type 0} (tells : Type 0) (clock : D → Clock) (counts : D → D
       let both : spelled (tried_of log) ≡ spelled w.opened.list + spelled (added w.opened w.ended ++ w.ended.failed) = spelled_then w.opened.list (added w.opened w.ended ++ w.ended.failed) in
       chain.goes.near (omega (arith, short, whole, gate, both)) ∙ w.is.near told (omega (arith, short, whole, opening, both))
 
-  files : tells → Besides (IsTouched (clock start) found (tried_of log)) (clock start) (clock w.ended.disk)
+  files : tells → Besides (IsTouched (clock start) (Opened log)) (clock start) (clock w.ended.disk)
   files told =
-      besides_then (IsTouched (clock start) found (tried_of log)) (clock start) (clock w.opened.disk) (clock w.ended.disk)
-      (opening_touches clock start (clock w.opened.disk) found (tried_of log) (w.beside told)) (chain.goes.beside told)
+      besides_then (IsTouched (clock start) (Opened log)) (clock start) (clock w.opened.disk) (clock w.ended.disk) (opening_touches clock start (clock w.opened.disk) (Opened log) (w.beside told)) (chain.goes.beside told)
 
   abbrev first : World
   first = world_of clock counts before was start

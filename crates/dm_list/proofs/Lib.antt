@@ -4,6 +4,7 @@ pub mod Courses
 pub mod Quiet
 pub mod Going
 pub mod Plain
+pub mod Unnamed
 pub mod Coming
 pub mod Left
 pub mod Closed

@@ -47,7 +47,7 @@ module _ {D : Type 0} (P : Run → Type 0) (shut : (run : Run) → IsClosed run 
     leaves = λ told. record {
       moments = refl;
       ends = tt;
-      files = besides_stay (IsTouched (clock start) [] []) (clock start) (clock start) refl;
+      files = besides_stay (IsTouched (clock start) Untouched) (clock start) (clock start) refl;
       holds = tt;
       damage = no_damage words (clock start) (clock start) said.verdict refused;
       near = λ short. refl;

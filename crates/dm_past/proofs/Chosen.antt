@@ -263,7 +263,7 @@ module _ {D : Type 0} (P : Run → Type 0) (well : (run : Run) → IsClosed run 
       leaves = λ sees. record {
         moments = refl;
         ends = tt;
-        files = besides_stay (IsTouched (clock start) [] []) (clock start) (clock start) refl;
+        files = besides_stay (IsTouched (clock start) Untouched) (clock start) (clock start) refl;
         holds = tt;
         damage = ((words_refused P well brings tells clock counts far says words at start said net_faults closed start said.verdict why refl nothing).leaves sees).damage;
         near = λ short. refl;

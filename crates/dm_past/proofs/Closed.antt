@@ -59,7 +59,7 @@ module _ {D : Type 0} (tells told : Type 0) (clock : D → Clock) (counts : D �
     leaves = λ sees. record {
       moments = none_read_leaves tells clock far says start end none sees;
       ends = tt;
-      files = besides_same (IsTouched (clock start) [] []) (clock start) (clock end) (none.files sees);
+      files = besides_same (IsTouched (clock start) Unread) (clock start) (clock end) (none.files sees);
       holds = tt;
       damage = damage sees;
       near = λ short. none.near;
@@ -83,7 +83,7 @@ module _ {D : Type 0} (tells told : Type 0) (clock : D → Clock) (counts : D �
     leaves = λ sees. record {
       moments = (h.is.runs sees).leaves;
       ends = kept_any says says_all (Through (h.found ++ h.recorded) h.failed) (now (clock end)) (h.is.kept sees false tt);
-      files = opening_touches clock start (clock end) h.found (h.recorded ++ (h.failed ++ h.rest)) (beside sees);
+      files = opening_touches clock start (clock end) (Unopened h.found h.recorded h.failed h.rest) (beside sees);
       holds = tt;
       damage = damage;
       near = h.is.near;

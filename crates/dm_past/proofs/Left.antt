@@ -182,7 +182,7 @@ module _ {D O : Type 0} (tells told : Type 0) (clock : D → Clock) (counts : D 
   leaves sees = record {
     moments = session_leaves clock (says origin) (clock start) found w.opened w.ended (session sees);
     ends = session_ends clock (says origin) (clock start) found w.opened w.ended (session sees);
-    files = then_still (clock start) (clock w.opened.disk) (clock w.ended.disk) found (tried_of log) (opening_touches clock start (clock w.opened.disk) found (tried_of log) (w.beside sees)) (w.goes.files sees);
+    files = then_still (clock start) (clock w.opened.disk) (clock w.ended.disk) (Opened log) (opening_touches clock start (clock w.opened.disk) (Opened log) (w.beside sees)) (w.goes.files sees);
     holds = session_holds clock (says origin) (clock start) found w.opened w.ended (session sees);
     damage = no_damage (clock start) (clock w.ended.disk) told (counts start) (counts w.ended.disk) past past' w.worked.doing log.more log.failed log.broken said (no_damages _ w.worked.doing w.worked.is (clock start) (clock w.ended.disk)) came;
     near = near sees;

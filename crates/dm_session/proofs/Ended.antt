@@ -72,7 +72,7 @@ module _ {D O : Type 0} (tells conns_tell accept_failed : Type 0) (clock : D →
       leaves = λ told. record {
         moments = none_read_leaves tells clock far (says origin) start end none told;
         ends = tt;
-        files = besides_same (IsTouched (clock start) [] []) (clock start) (clock end) (none.files told);
+        files = besides_same (IsTouched (clock start) Unread) (clock start) (clock end) (none.files told);
         holds = tt;
         damage = damage told;
         near = λ short. none.near;
@@ -94,7 +94,7 @@ module _ {D O : Type 0} (tells conns_tell accept_failed : Type 0) (clock : D →
       leaves = λ told. record {
         moments = (h.is.runs told).leaves;
         ends = kept_any (says origin) says_all (Through (h.found ++ h.recorded) h.failed) (now (clock end)) (h.is.kept told false tt);
-        files = opening_touches clock start (clock end) h.found (h.recorded ++ (h.failed ++ h.rest)) (beside told);
+        files = opening_touches clock start (clock end) (Unopened h.found h.recorded h.failed h.rest) (beside told);
         holds = tt;
         damage = damage;
         near = h.is.near;

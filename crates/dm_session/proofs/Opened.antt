@@ -161,11 +161,11 @@ module _ {D O : Type 0} (tells : Type 0) (clock : D → Clock) (counts : D → D
       let both : spelled (tried_of here) ≡ spelled opened.list + spelled (added opened ended ++ ended.failed) = spelled_then opened.list (added opened ended ++ ended.failed) in
       steps.near (omega (arith, short, whole, gate, both)) ∙ is.near told (omega (arith, short, whole, opening, both))
 
-  files : tells → Besides (IsTouched (clock start) found (tried_of here)) (clock start) (clock ended.disk)
+  files : tells → Besides (IsTouched (clock start) (Opened here)) (clock start) (clock ended.disk)
   files told =
-      besides_then (IsTouched (clock start) found (tried_of here)) (clock start) (clock opened.disk) (clock ended.disk)
-      (opening_touches clock start (clock opened.disk) found (tried_of here) (beside told))
-      (besides_more IsPart (IsTouched (clock start) found (tried_of here)) (clock opened.disk) (clock ended.disk) (λ name part. inl part) (steps.beside told))
+      besides_then (IsTouched (clock start) (Opened here)) (clock start) (clock opened.disk) (clock ended.disk)
+      (opening_touches clock start (clock opened.disk) (Opened here) (beside told))
+      (besides_more IsPart (IsTouched (clock start) (Opened here)) (clock opened.disk) (clock ended.disk) (λ name part. inl part) (steps.beside told))
 
   later : IsLater tells before after
   later = record {

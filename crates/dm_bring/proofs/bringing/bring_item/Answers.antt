@@ -22,7 +22,7 @@ returns-clause-brought g c =
       end = c.fetch-ended.result;
       course_is = c.course_behind.ensures ∙ ap (λ (k : Option DiskKind). course_behind k (Brings c.args.id c.args.slices)) c.journal_kind.ensures;
       brought = brought;
-      goes = fetch_goes D.tells D.history (λ o. said_of (g.N.O.Origin.says o)) D.far D.faults N.tells c.args.id c.args.slices c.args.at c.args.desk.now c.fetch-ended.new.desk (N.closed c.args.net.now) (N.closed c.fetch-ended.new.net)
+      goes = fetch_goes D.tells D.history (λ o. said_of (g.N.O.Origin.says o)) D.far D.faults N.tells c.args.id c.args.slices c.args.at g.met.D.Disk.sound c.args.desk.now c.fetch-ended.new.desk (N.closed c.args.net.now) (N.closed c.fetch-ended.new.net)
           (N.faults c.args.net.now) (N.faults c.fetch-ended.new.net) c.fetch-ended.result c.requires.whole none did brought;
       ends = λ waits smooth.
           ends_well D.tells D.history (λ o. said_of (g.N.O.Origin.says o)) D.far D.faults N.tells c.args.desk.now c.fetch-ended.new.desk (N.closed c.args.net.now) (N.closed c.fetch-ended.new.net) (N.faults c.args.net.now) (N.faults c.fetch-ended.new.net)
