@@ -1,9 +1,6 @@
 // What `get` and `resume` print, ask for, and leave.
-use crate::bench::{Row, disk, file, holds, net, run_over};
-use dm_disk::MemoryDisk;
-use dm_edge::NetScript;
-use std::alloc::Global;
-use std::test::Fail;
+use crate::runs::ListRuns;
+use dm_run_bench::{Left, Played, Row, Step, play};
 
 /// `hello world` at once, with no tag.
 const WHOLE: &[u8] = b"HTTP/1.1 200 OK\r\nContent-Length: 11\r\n\r\nhello world";
@@ -38,11 +35,38 @@ const GET: &[&[u8]] = &[
     b"http://files.example/a/hello.txt",
 ];
 
+const HELLO: &[(&[u8], &[u8])] = &[(b"hello.txt", b"hello world")];
+
+/// A content at once.
 const BROUGHT: Row = Row {
     words: GET,
-    status: 0,
+    streams: &[WHOLE],
+    sent: &[FIRST],
     out: b"1 complete 11 11 hello.txt\n",
-    errs: b"",
+    files: HELLO,
+    ..Row::NOTHING
+};
+
+/// It is there already.
+const SHOWN: Row = Row {
+    streams: &[OTHER],
+    sent: &[],
+    ..BROUGHT
+};
+
+/// The rest of one that was cut.
+const GONE_ON: Row = Row {
+    streams: &[CUT, REST],
+    sent: &[FIRST, RANGE],
+    ..BROUGHT
+};
+
+/// The range is answered by another content.
+const BROUGHT_ANEW: Row = Row {
+    streams: &[CUT, OTHER, OTHER],
+    sent: &[FIRST, RANGE, FIRST],
+    files: &[(b"hello.txt", b"HELLO WORLD")],
+    ..BROUGHT
 };
 
 const NO_ROUTE: Row = Row {
@@ -50,189 +74,84 @@ const NO_ROUTE: Row = Row {
     status: 1,
     out: b"1 interrupted:22 0 ? -\n",
     errs: b"interrupted 22 NETWORK_DISCONNECTED\n",
+    ..Row::NOTHING
 };
 
 const RESUMED: Row = Row {
     words: &[b"resume", b"1"],
-    status: 0,
-    out: b"1 complete 11 11 hello.txt\n",
-    errs: b"",
+    ..BROUGHT
 };
 
 const BAD_CONTENT: Row = Row {
     words: GET,
+    streams: &[PACKED, WHOLE],
+    sent: &[FIRST],
     status: 1,
     out: b"1 interrupted:33 0 ? -\n",
     errs: b"interrupted 33 SERVER_BAD_CONTENT\n",
+    ..Row::NOTHING
 };
 
 const MAY_NOT: Row = Row {
     words: &[b"resume", b"1"],
+    streams: &[WHOLE],
     status: 4,
-    out: b"",
     errs: b"state interrupted:33\n",
+    ..Row::NOTHING
 };
 
 const IS_COMPLETE: Row = Row {
-    words: &[b"resume", b"1"],
-    status: 4,
-    out: b"",
     errs: b"state complete\n",
+    ..MAY_NOT
 };
 
 const NONE_TO_RESUME: Row = Row {
     words: &[b"resume", b"7"],
+    streams: &[WHOLE],
     status: 3,
-    out: b"",
     errs: b"no item 7\n",
+    ..Row::NOTHING
 };
 
 const NO_COMMAND: Row = Row {
     words: &[b"fetch"],
+    streams: &[WHOLE],
     status: 2,
-    out: b"",
     errs: b"bad words\n",
+    ..Row::NOTHING
 };
 
 const TOO_MANY: Row = Row {
     words: &[b"get", b"--slices", b"17", b"http://h/a"],
-    status: 2,
-    out: b"",
-    errs: b"bad words\n",
+    ..NO_COMMAND
 };
 
-/// Commands one after another over one net, how many connections they make, how the last request ends, and
-/// what `hello.txt` holds then, if it stands.
-struct Case {
-    rows: &'static [Row],
-    streams: &'static [&'static [u8]],
-    asked: u64,
-    last: &'static [u8],
-    content: Option<&'static [u8]>,
-}
+const NO_FILE: Step = Step::Left(Left::Stands(b"hello.txt", false));
 
-const CASES: [Case; 6] = [
-    Case {
-        rows: &[BROUGHT, BROUGHT, IS_COMPLETE],
-        streams: &[WHOLE, OTHER],
-        asked: 1,
-        last: FIRST,
-        content: Some(b"hello world"),
-    },
-    Case {
-        rows: &[BROUGHT],
-        streams: &[CUT, REST],
-        asked: 2,
-        last: RANGE,
-        content: Some(b"hello world"),
-    },
-    Case {
-        rows: &[BROUGHT],
-        streams: &[CUT, OTHER, OTHER],
-        asked: 3,
-        last: FIRST,
-        content: Some(b"HELLO WORLD"),
-    },
-    Case {
-        rows: &[BAD_CONTENT, MAY_NOT],
-        streams: &[PACKED, WHOLE],
-        asked: 1,
-        last: FIRST,
-        content: None,
-    },
-    Case {
-        rows: &[NO_ROUTE],
-        streams: &[],
-        asked: 0,
-        last: b"",
-        content: None,
-    },
-    Case {
-        rows: &[NONE_TO_RESUME, NO_COMMAND, TOO_MANY],
-        streams: &[WHOLE],
-        asked: 0,
-        last: b"",
-        content: None,
-    },
+/// Commands one after another, and whether `hello.txt` stands where it isn't brought.
+const CASES: [&[Step]; 6] = [
+    &[
+        Step::Runs(BROUGHT),
+        Step::Runs(SHOWN),
+        Step::Runs(IS_COMPLETE),
+        Step::Left(Left::File(b"hello.txt", b"hello world")),
+    ],
+    &[Step::Runs(GONE_ON)],
+    &[Step::Runs(BROUGHT_ANEW)],
+    &[Step::Runs(BAD_CONTENT), Step::Runs(MAY_NOT), NO_FILE],
+    &[Step::Runs(NO_ROUTE), NO_FILE, Step::Runs(RESUMED)],
+    &[
+        Step::Runs(NONE_TO_RESUME),
+        Step::Runs(NO_COMMAND),
+        Step::Runs(TOO_MANY),
+        NO_FILE,
+    ],
 ];
 
-/// How many connections were closed, up to 9.
-fn count_of(net: &NetScript) -> u64 {
-    let mut count = 0;
-    for place in 0..9 {
-        if net.closed(place).is_some() {
-            count = place + 1;
-        }
-    }
-    count
-}
-
-/// Whether the last of so many connections was sent a request that ends so.
-fn asked_last(net: &NetScript, asked: u64, end: &[u8]) -> bool {
-    if asked == 0 {
-        return true;
-    }
-    match net.closed(asked - 1) {
-        Some(exchange) => exchange.sent.bytes().ends_with(end),
-        None => false,
-    }
-}
-
-/// Runs the commands of a case: the first that says something else, and the disk.
-fn say_over(
-    alloc: Global,
-    case: &Case,
-    net: &mut NetScript,
-) -> Result<(Option<usize>, MemoryDisk), Fail> {
-    let mut there = disk(alloc, None, None)?;
-    let mut other = None;
-    for (place, row) in case.rows.iter().enumerate() {
-        let ran = run_over(alloc, row.words, there, net, 1000)?;
-        if other.is_none() && !ran.is(row) {
-            other = Some(place);
-        }
-        there = ran.disk;
-    }
-    Ok((other, there))
-}
-
-/// Whether the file is as the case has it.
-fn holds_content(alloc: Global, there: &mut MemoryDisk, case: &Case) -> Result<bool, Fail> {
-    let place = file(alloc, b"hello.txt")?;
-    match case.content {
-        Some(content) => Ok(holds(alloc, there, &place, content)?),
-        None => Ok(!holds(alloc, there, &place, b"hello world")?),
-    }
-}
-
 #[test]
-fn items_are_brought(rt: HostRuntime) -> Result<(), Fail> {
-    let alloc = rt.alloc();
-    for (number, case) in CASES.iter().enumerate() {
-        let mut net = net(alloc, case.streams)?;
-        let (other, mut there) = say_over(alloc, case, &mut net)?;
-        assert_eq!(rt; other, None, "in {number}");
-        assert_eq!(rt; count_of(&net), case.asked, "in {number}");
-        assert!(rt; asked_last(&net, case.asked, case.last), "in {number}");
-        assert!(rt; holds_content(alloc, &mut there, case)?, "in {number}");
+fn items_are_brought_and_resumed(rt: HostRuntime) {
+    for (number, steps) in CASES.iter().enumerate() {
+        let played = play(rt.alloc(), &ListRuns, None, steps);
+        assert_eq!(rt; played, Played::AsSaid, "in {number}");
     }
-    Ok(())
-}
-
-#[test]
-fn an_interrupted_item_is_resumed(rt: HostRuntime) -> Result<(), Fail> {
-    let alloc = rt.alloc();
-    let mut none = net(alloc, &[])?;
-    let ran = run_over(
-        alloc,
-        NO_ROUTE.words,
-        disk(alloc, None, None)?,
-        &mut none,
-        1000,
-    )?;
-    assert!(rt; ran.is(&NO_ROUTE));
-    let mut net = net(alloc, &[WHOLE])?;
-    let ran = run_over(alloc, RESUMED.words, ran.disk, &mut net, 1000)?;
-    assert!(rt; ran.is(&RESUMED));
-    Ok(())
 }

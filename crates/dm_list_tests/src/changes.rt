@@ -1,12 +1,13 @@
 // What the commands print that change an item, and what the journal holds behind them.
-use crate::bench::{Row, disk, home, length, run_with_room, say};
-use std::test::Fail;
+use crate::runs::ListRuns;
+use dm_run_bench::{Left, Outside, Played, Row, Step, Told, play};
 
 const ADD: Row = Row {
     words: &[b"add", b"--word", b"w1", b"http://h/a"],
     status: 0,
     out: b"1 waiting 0 ? -\n",
     errs: b"",
+    ..Row::NOTHING
 };
 
 const OTHER: Row = Row {
@@ -14,6 +15,7 @@ const OTHER: Row = Row {
     status: 0,
     out: b"2 waiting 0 ? -\n",
     errs: b"",
+    ..Row::NOTHING
 };
 
 const ADD_ANEW: Row = Row {
@@ -21,6 +23,7 @@ const ADD_ANEW: Row = Row {
     status: 0,
     out: b"2 waiting 0 ? -\n",
     errs: b"",
+    ..Row::NOTHING
 };
 
 const PAUSE: Row = Row {
@@ -28,6 +31,7 @@ const PAUSE: Row = Row {
     status: 0,
     out: b"1 paused 0 ? -\n",
     errs: b"",
+    ..Row::NOTHING
 };
 
 const CANCEL: Row = Row {
@@ -35,6 +39,7 @@ const CANCEL: Row = Row {
     status: 0,
     out: b"1 cancelled 0 ? -\n",
     errs: b"",
+    ..Row::NOTHING
 };
 
 const REMOVE: Row = Row {
@@ -42,6 +47,7 @@ const REMOVE: Row = Row {
     status: 0,
     out: b"",
     errs: b"",
+    ..Row::NOTHING
 };
 
 const REMOVE_OTHER: Row = Row {
@@ -49,6 +55,7 @@ const REMOVE_OTHER: Row = Row {
     status: 0,
     out: b"",
     errs: b"",
+    ..Row::NOTHING
 };
 
 const ONE_PAUSED: Row = Row {
@@ -56,6 +63,7 @@ const ONE_PAUSED: Row = Row {
     status: 0,
     out: b"1 paused 0 ? -\n",
     errs: b"",
+    ..Row::NOTHING
 };
 
 const NONE: Row = Row {
@@ -63,6 +71,7 @@ const NONE: Row = Row {
     status: 0,
     out: b"",
     errs: b"",
+    ..Row::NOTHING
 };
 
 const NO_PAUSE: Row = Row {
@@ -70,6 +79,7 @@ const NO_PAUSE: Row = Row {
     status: 4,
     out: b"",
     errs: b"state cancelled\n",
+    ..Row::NOTHING
 };
 
 const GONE: Row = Row {
@@ -77,6 +87,7 @@ const GONE: Row = Row {
     status: 3,
     out: b"",
     errs: b"no item 1\n",
+    ..Row::NOTHING
 };
 
 const NONE_TO_PAUSE: Row = Row {
@@ -84,6 +95,7 @@ const NONE_TO_PAUSE: Row = Row {
     status: 3,
     out: b"",
     errs: b"no item 7\n",
+    ..Row::NOTHING
 };
 
 const NONE_TO_CANCEL: Row = Row {
@@ -91,6 +103,7 @@ const NONE_TO_CANCEL: Row = Row {
     status: 3,
     out: b"",
     errs: b"no item 7\n",
+    ..Row::NOTHING
 };
 
 const NONE_TO_REMOVE: Row = Row {
@@ -98,49 +111,117 @@ const NONE_TO_REMOVE: Row = Row {
     status: 3,
     out: b"",
     errs: b"no item 7\n",
+    ..Row::NOTHING
+};
+
+/// With room for 5 bytes it prints a front of its text.
+const CUT_OFF: Row = Row {
+    words: &[b"list"],
+    outside: Outside {
+        room: 5,
+        ..Outside::SOUND
+    },
+    told: Told::Front,
+    status: 7,
+    out: b"1 waiting 0 ? -\n",
+    ..Row::NOTHING
 };
 
 /// Commands one after another, and how long the journal is then: 8 bytes of a header and 1 of its end, 18
 /// of each opening, 37 of an Added with the word, 35 of one without, and 10 of each entry with an id alone.
-const CASES: [(&[Row], u64); 14] = [
-    (&[ADD, PAUSE], 92),
-    (&[ADD, PAUSE, PAUSE], 110),
-    (&[ADD, PAUSE, ONE_PAUSED], 110),
-    (&[ADD, CANCEL], 92),
-    (&[ADD, CANCEL, CANCEL], 110),
-    (&[ADD, PAUSE, CANCEL], 120),
-    (&[ADD, CANCEL, NO_PAUSE], 110),
-    (&[ADD, REMOVE, NONE], 110),
-    (&[ADD, REMOVE, GONE], 110),
-    (&[ADD, CANCEL, REMOVE], 120),
-    (&[ADD, REMOVE, OTHER], 145),
-    (&[ADD, REMOVE, ADD_ANEW], 147),
-    (&[NONE_TO_PAUSE, NONE_TO_CANCEL, NONE_TO_REMOVE], 63),
-    (&[ADD, OTHER, PAUSE, REMOVE_OTHER, ONE_PAUSED], 191),
+const CASES: [&[Step]; 15] = [
+    &[
+        Step::Runs(ADD),
+        Step::Runs(PAUSE),
+        Step::Left(Left::Length(Some(92))),
+    ],
+    &[
+        Step::Runs(ADD),
+        Step::Runs(PAUSE),
+        Step::Runs(PAUSE),
+        Step::Left(Left::Length(Some(110))),
+    ],
+    &[
+        Step::Runs(ADD),
+        Step::Runs(PAUSE),
+        Step::Runs(ONE_PAUSED),
+        Step::Left(Left::Length(Some(110))),
+    ],
+    &[
+        Step::Runs(ADD),
+        Step::Runs(CANCEL),
+        Step::Left(Left::Length(Some(92))),
+    ],
+    &[
+        Step::Runs(ADD),
+        Step::Runs(CANCEL),
+        Step::Runs(CANCEL),
+        Step::Left(Left::Length(Some(110))),
+    ],
+    &[
+        Step::Runs(ADD),
+        Step::Runs(PAUSE),
+        Step::Runs(CANCEL),
+        Step::Left(Left::Length(Some(120))),
+    ],
+    &[
+        Step::Runs(ADD),
+        Step::Runs(CANCEL),
+        Step::Runs(NO_PAUSE),
+        Step::Left(Left::Length(Some(110))),
+    ],
+    &[
+        Step::Runs(ADD),
+        Step::Runs(REMOVE),
+        Step::Runs(NONE),
+        Step::Left(Left::Length(Some(110))),
+    ],
+    &[
+        Step::Runs(ADD),
+        Step::Runs(REMOVE),
+        Step::Runs(GONE),
+        Step::Left(Left::Length(Some(110))),
+    ],
+    &[
+        Step::Runs(ADD),
+        Step::Runs(CANCEL),
+        Step::Runs(REMOVE),
+        Step::Left(Left::Length(Some(120))),
+    ],
+    &[
+        Step::Runs(ADD),
+        Step::Runs(REMOVE),
+        Step::Runs(OTHER),
+        Step::Left(Left::Length(Some(145))),
+    ],
+    &[
+        Step::Runs(ADD),
+        Step::Runs(REMOVE),
+        Step::Runs(ADD_ANEW),
+        Step::Left(Left::Length(Some(147))),
+    ],
+    &[
+        Step::Runs(NONE_TO_PAUSE),
+        Step::Runs(NONE_TO_CANCEL),
+        Step::Runs(NONE_TO_REMOVE),
+        Step::Left(Left::Length(Some(63))),
+    ],
+    &[
+        Step::Runs(ADD),
+        Step::Runs(OTHER),
+        Step::Runs(PAUSE),
+        Step::Runs(REMOVE_OTHER),
+        Step::Runs(ONE_PAUSED),
+        Step::Left(Left::Length(Some(191))),
+    ],
+    // A line that is cut off has status 7.
+    &[Step::Runs(ADD), Step::Runs(CUT_OFF)],
 ];
 
 #[test]
-fn items_are_paused_cancelled_and_removed(rt: HostRuntime) -> Result<(), Fail> {
-    let alloc = rt.alloc();
-    for (place, (rows, wanted)) in CASES.iter().enumerate() {
-        let (other, mut there) = say(alloc, disk(alloc, None, None)?, rows)?;
-        assert_eq!(rt; other, None, "in {place}");
-        assert_eq!(rt;
-            length(&mut there, &home(alloc)?),
-            Some(*wanted),
-            "in {place}"
-        );
+fn items_are_paused_cancelled_and_removed(rt: HostRuntime) {
+    for (place, steps) in CASES.iter().enumerate() {
+        let played = play(rt.alloc(), &ListRuns, None, steps);
+        assert_eq!(rt; played, Played::AsSaid, "in {place}");
     }
-    Ok(())
-}
-
-#[test]
-fn a_line_that_is_cut_off_has_status_7(rt: HostRuntime) -> Result<(), Fail> {
-    let alloc = rt.alloc();
-    let (other, there) = say(alloc, disk(alloc, None, None)?, &[ADD])?;
-    assert_eq!(rt; other, None);
-    let ran = run_with_room(alloc, &[b"list"], there, 5)?;
-    assert_eq!(rt; ran.status, 7);
-    assert!(rt; b"1 waiting 0 ? -\n".starts_with(ran.out.bytes()));
-    Ok(())
 }

@@ -1,8 +1,7 @@
 // What each command prints, its status, and the journal behind it.
-use crate::bench::{Row, disk, holds, home, length, put, say};
-use dm_disk::MemoryDisk;
-use std::alloc::Global;
-use std::test::Fail;
+use crate::runs::ListRuns;
+use dm_run_bench::{Left, Played, Row, Step, play};
+use dm_types::DiskKind;
 
 // The journal after `add --word w1 http://h/a` at moment 0: a Reopened and an Added.
 const ADDED: [u8; 64] = [
@@ -28,6 +27,7 @@ const FIRST: Row = Row {
     status: 0,
     out: b"1 waiting 0 ? -\n",
     errs: b"",
+    ..Row::NOTHING
 };
 
 const WITH_A_WISH: Row = Row {
@@ -44,6 +44,7 @@ const WITH_A_WISH: Row = Row {
     status: 0,
     out: b"1 waiting 0 ? -\n",
     errs: b"",
+    ..Row::NOTHING
 };
 
 const IN_ANOTHER_ORDER: Row = Row {
@@ -60,6 +61,7 @@ const IN_ANOTHER_ORDER: Row = Row {
     status: 0,
     out: b"1 waiting 0 ? -\n",
     errs: b"",
+    ..Row::NOTHING
 };
 
 const OTHER_ADDRESS: Row = Row {
@@ -67,6 +69,7 @@ const OTHER_ADDRESS: Row = Row {
     status: 10,
     out: b"",
     errs: b"word of item 1\n",
+    ..Row::NOTHING
 };
 
 const SECOND: Row = Row {
@@ -74,6 +77,7 @@ const SECOND: Row = Row {
     status: 0,
     out: b"2 waiting 0 ? -\n",
     errs: b"",
+    ..Row::NOTHING
 };
 
 const THIRD: Row = Row {
@@ -81,6 +85,7 @@ const THIRD: Row = Row {
     status: 0,
     out: b"3 waiting 0 ? -\n",
     errs: b"",
+    ..Row::NOTHING
 };
 
 const BOTH: Row = Row {
@@ -88,6 +93,7 @@ const BOTH: Row = Row {
     status: 0,
     out: b"1 waiting 0 ? -\n2 waiting 0 ? -\n",
     errs: b"",
+    ..Row::NOTHING
 };
 
 const NONE: Row = Row {
@@ -95,6 +101,7 @@ const NONE: Row = Row {
     status: 0,
     out: b"",
     errs: b"",
+    ..Row::NOTHING
 };
 
 const SHOWN: Row = Row {
@@ -102,6 +109,7 @@ const SHOWN: Row = Row {
     status: 0,
     out: b"id 1\nstate waiting\nword w1\naddress http://h/a\nlast -\nname -\ncovered 0\ntotal -\nepoch 1\nattempts 0\nautomatic 0\nmodified -\nsha256 -\n",
     errs: b"",
+    ..Row::NOTHING
 };
 
 const NO_ITEM: Row = Row {
@@ -109,6 +117,7 @@ const NO_ITEM: Row = Row {
     status: 3,
     out: b"",
     errs: b"no item 5\n",
+    ..Row::NOTHING
 };
 
 const BAD_ADDRESS: Row = Row {
@@ -116,6 +125,7 @@ const BAD_ADDRESS: Row = Row {
     status: 2,
     out: b"",
     errs: b"bad address\n",
+    ..Row::NOTHING
 };
 
 const DAMAGED: Row = Row {
@@ -123,6 +133,7 @@ const DAMAGED: Row = Row {
     status: 5,
     out: b"",
     errs: b"journal damaged at 26\n",
+    ..Row::NOTHING
 };
 
 const DENIED: Row = Row {
@@ -130,130 +141,121 @@ const DENIED: Row = Row {
     status: 6,
     out: b"",
     errs: b"disk denied\n",
+    ..Row::NOTHING
 };
 
-/// Whether the commands say so on an empty disk, and how long the journal is behind them.
-fn length_after(alloc: Global, rows: &[Row]) -> Result<Option<u64>, Fail> {
-    let (other, mut there) = say(alloc, disk(alloc, None, None)?, rows)?;
-    if other.is_some() {
-        return Err("said otherwise".into());
+/// What is done on an empty disk, of which a call may fail.
+const CASES: [(Option<(u64, DiskKind)>, &[Step]); 9] = [
+    // An added item is in the journal.
+    (
+        None,
+        &[Step::Runs(FIRST), Step::Left(Left::Journal(&ADDED))],
+    ),
+    // A name and a digest are in the journal, in whichever order the words stand.
+    (
+        None,
+        &[
+            Step::Runs(WITH_A_WISH),
+            Step::Left(Left::Journal(&WISHED_FOR)),
+        ],
+    ),
+    (
+        None,
+        &[
+            Step::Runs(IN_ANOTHER_ORDER),
+            Step::Left(Left::Journal(&WISHED_FOR)),
+        ],
+    ),
+    // Another order of the words adds nothing. An opening is recorded in 18 bytes.
+    (
+        None,
+        &[
+            Step::Runs(WITH_A_WISH),
+            Step::Runs(IN_ANOTHER_ORDER),
+            Step::Runs(SHOWN),
+            Step::Left(Left::Length(Some(137))),
+        ],
+    ),
+    // A word with its address adds nothing, and one with another address is refused.
+    (
+        None,
+        &[
+            Step::Runs(FIRST),
+            Step::Runs(FIRST),
+            Step::Left(Left::Length(Some(82))),
+            Step::Runs(OTHER_ADDRESS),
+            Step::Left(Left::Length(Some(100))),
+        ],
+    ),
+    // Items are listed and shown.
+    (
+        None,
+        &[
+            Step::Runs(NONE),
+            Step::Runs(FIRST),
+            Step::Runs(SECOND),
+            Step::Runs(BOTH),
+            Step::Runs(SHOWN),
+            Step::Left(Left::Length(Some(171))),
+        ],
+    ),
+    // An item that isn't there.
+    (
+        None,
+        &[Step::Runs(NO_ITEM), Step::Left(Left::Length(Some(27)))],
+    ),
+    // A bad address starts no journal.
+    (
+        None,
+        &[Step::Runs(BAD_ADDRESS), Step::Left(Left::Length(None))],
+    ),
+    // A denied call is told.
+    (Some((0, DiskKind::Denied)), &[Step::Runs(DENIED)]),
+];
+
+#[test]
+fn commands_print_and_record(rt: HostRuntime) {
+    for (place, (failing, steps)) in CASES.iter().enumerate() {
+        let played = play(rt.alloc(), &ListRuns, *failing, steps);
+        assert_eq!(rt; played, Played::AsSaid, "in {place}");
     }
-    Ok(length(&mut there, &home(alloc)?))
-}
-
-/// A disk whose `journal` holds these bytes.
-fn with_journal(alloc: Global, bytes: &[u8]) -> Result<MemoryDisk, Fail> {
-    let mut there = disk(alloc, None, None)?;
-    put(&mut there, &home(alloc)?, bytes)?;
-    Ok(there)
 }
 
 #[test]
-fn an_added_item_is_in_the_journal(rt: HostRuntime) -> Result<(), Fail> {
-    let alloc = rt.alloc();
-    let (other, mut there) = say(alloc, disk(alloc, None, None)?, &[FIRST])?;
-    assert!(rt; other.is_none() && holds(alloc, &mut there, &home(alloc)?, &ADDED)?);
-    Ok(())
-}
-
-#[test]
-fn a_name_and_a_digest_are_in_the_journal(rt: HostRuntime) -> Result<(), Fail> {
-    let alloc = rt.alloc();
-    for row in [WITH_A_WISH, IN_ANOTHER_ORDER] {
-        let (other, mut there) = say(alloc, disk(alloc, None, None)?, &[row])?;
-        assert!(rt; other.is_none() && holds(alloc, &mut there, &home(alloc)?, &WISHED_FOR)?);
-    }
-    Ok(())
-}
-
-#[test]
-fn another_order_of_the_words_adds_nothing(rt: HostRuntime) -> Result<(), Fail> {
-    let rows = [WITH_A_WISH, IN_ANOTHER_ORDER, SHOWN];
-    assert_eq!(rt; length_after(rt.alloc(), &rows)?, Some(137));
-    Ok(())
-}
-
-// An opening is recorded in 18 bytes.
-#[test]
-fn a_word_with_its_address_adds_nothing(rt: HostRuntime) -> Result<(), Fail> {
-    assert_eq!(rt; length_after(rt.alloc(), &[FIRST, FIRST])?, Some(82));
-    Ok(())
-}
-
-#[test]
-fn a_word_with_another_address_is_refused(rt: HostRuntime) -> Result<(), Fail> {
-    assert_eq!(rt;
-        length_after(rt.alloc(), &[FIRST, OTHER_ADDRESS])?,
-        Some(82)
-    );
-    Ok(())
-}
-
-#[test]
-fn items_are_listed_and_shown(rt: HostRuntime) -> Result<(), Fail> {
-    let rows = [NONE, FIRST, SECOND, BOTH, SHOWN];
-    assert!(rt; length_after(rt.alloc(), &rows)?.is_some());
-    Ok(())
-}
-
-#[test]
-fn an_item_that_is_not_there(rt: HostRuntime) -> Result<(), Fail> {
-    assert_eq!(rt; length_after(rt.alloc(), &[NO_ITEM])?, Some(27));
-    Ok(())
-}
-
-#[test]
-fn a_bad_address_starts_no_journal(rt: HostRuntime) -> Result<(), Fail> {
-    assert_eq!(rt; length_after(rt.alloc(), &[BAD_ADDRESS])?, None);
-    Ok(())
-}
-
-#[test]
-fn a_cut_journal_stays_as_it_is(rt: HostRuntime) -> Result<(), Fail> {
-    let alloc = rt.alloc();
+fn a_cut_journal_stays_as_it_is(rt: HostRuntime) {
     let cut = &ADDED[..40];
-    let (other, mut there) = say(alloc, with_journal(alloc, cut)?, &[DAMAGED])?;
-    assert!(rt; other.is_none() && holds(alloc, &mut there, &home(alloc)?, cut)?);
-    Ok(())
-}
-
-/// The first of the commands that says something else where the journal holds these bytes.
-fn first_other(alloc: Global, bytes: &[u8], rows: &[Row]) -> Result<Option<usize>, Fail> {
-    let (other, _) = say(alloc, with_journal(alloc, bytes)?, rows)?;
-    Ok(other)
+    let steps = [
+        Step::Journal(cut),
+        Step::Runs(DAMAGED),
+        Step::Left(Left::Journal(cut)),
+    ];
+    assert_eq!(rt; play(rt.alloc(), &ListRuns, None, &steps), Played::AsSaid);
 }
 
 #[test]
-fn a_last_byte_of_seven_is_a_closed_gate(rt: HostRuntime) -> Result<(), Fail> {
+fn a_last_byte_of_seven_is_a_closed_gate(rt: HostRuntime) {
     let mut bytes = ADDED;
     bytes[63] = 7;
-    assert_eq!(rt;
-        first_other(rt.alloc(), &bytes, &[FIRST, SECOND, BOTH])?,
-        None
-    );
-    Ok(())
+    let steps = [
+        Step::Journal(&bytes),
+        Step::Runs(FIRST),
+        Step::Runs(SECOND),
+        Step::Runs(BOTH),
+    ];
+    assert_eq!(rt; play(rt.alloc(), &ListRuns, None, &steps), Played::AsSaid);
 }
 
 // The Added has the id 2, where 1 comes next.
 #[test]
-fn an_entry_that_may_not_come_is_damage(rt: HostRuntime) -> Result<(), Fail> {
+fn an_entry_that_may_not_come_is_damage(rt: HostRuntime) {
     let mut bytes = ADDED;
     bytes[35] = 2;
-    assert_eq!(rt; first_other(rt.alloc(), &bytes, &[DAMAGED])?, None);
-    Ok(())
+    let steps = [Step::Journal(&bytes), Step::Runs(DAMAGED)];
+    assert_eq!(rt; play(rt.alloc(), &ListRuns, None, &steps), Played::AsSaid);
 }
 
 #[test]
-fn items_without_a_word_are_many(rt: HostRuntime) -> Result<(), Fail> {
-    let rows = [SECOND, THIRD];
-    assert_eq!(rt; first_other(rt.alloc(), &ADDED, &rows)?, None);
-    Ok(())
-}
-
-#[test]
-fn a_denied_call_is_told(rt: HostRuntime) -> Result<(), Fail> {
-    let alloc = rt.alloc();
-    let (other, _) = say(alloc, disk(alloc, Some(0), None)?, &[DENIED])?;
-    assert_eq!(rt; other, None);
-    Ok(())
+fn items_without_a_word_are_many(rt: HostRuntime) {
+    let steps = [Step::Journal(&ADDED), Step::Runs(SECOND), Step::Runs(THIRD)];
+    assert_eq!(rt; play(rt.alloc(), &ListRuns, None, &steps), Played::AsSaid);
 }

@@ -1,6 +1,6 @@
 use Rattle.dm_disk_model.proofs.Standing.{stands_told}
 use Rattle.dm_disk.specs.Memory.{history_in}
-use Rattle.dm_list_tests.proofs.bench.read.Goals as goal
+use Rattle.dm_run_bench.proofs.disks.read.Goals as goal
 
 pub read_at-requires : goal.read_at-requires
 read_at-requires c =

@@ -3,7 +3,7 @@ use Rattle.std.specs.Prelude.{All}
 use Rattle.std.proofs.lemmas.List.Elements.{All-push}
 use Rattle.dm_edge.specs.declared.script.WireScript.{WireScript}
 use Rattle.dm_edge.specs.Script.{IsGood}
-use Rattle.dm_list_tests.proofs.bench.scripts.Goals as goal
+use Rattle.dm_run_bench.proofs.nets.scripts.Goals as goal
 
 pub loop-stream-preserved : goal.loop-stream-preserved
 loop-stream-preserved c =

@@ -1,6 +1,6 @@
 use Rattle.dm_disk_model.proofs.Standing.{stands_told, stands_not_told}
 use Rattle.dm_disk.specs.Memory.{history_in}
-use Rattle.dm_list_tests.proofs.bench.put.Goals as goal
+use Rattle.dm_run_bench.proofs.disks.fill.Goals as goal
 
 pub create-requires : goal.create-requires
 create-requires c =
