@@ -14,7 +14,6 @@ use Rattle.dm_kept.specs.Files.{Says}
 use Rattle.dm_store.specs.Keeps.{Keeps, StaysNear}
 use Rattle.dm_store.specs.View.{View}
 use Rattle.dm_answers.specs.Frame.{Went}
-use Rattle.dm_attempt.specs.Ending.{journal_kind_of}
 use Rattle.dm_attempt.specs.declared.ended.Ended.{Ended}
 use Rattle.dm_does.specs.declared.course.Course.{Course}
 use Rattle.dm_does.specs.declared.course.Course.TheVariants.{Ends, Brings}
@@ -37,11 +36,11 @@ pub record BringGoes {D O : Type 0} (tells : Type 0) (clock : D → Clock) (coun
   pub later : NoneFell (counts old.disk) (counts new.disk)
   pub beside : Waits id old.items.items → tells → (history : History) → IsOf history old.items → Besides (MayName (clock old.disk) history (fetched ++ new.failed) new.broken) (clock old.disk) (clock new.disk)
 
--- The item was brought, and so the course goes on. Where it waited and nothing stood in the way, it is complete, or memory was wanting, or the content, of which no reply told how long it is, has
--- another sum than the stated one; and that is said of it.
+-- The item was brought, and so the course goes on: where memory was wanting, also for an attempt that the item would have made by itself, it ends by that. Where the item waited and nothing stood in
+-- the way, it is complete, or memory was wanting, or the content, of which no reply told how long it is, has another sum than the stated one; and that is said of it.
 pub record WasBrought {D O : Type 0} (tells : Type 0) (clock : D → Clock) (counts : D → DiskKind → ℕ) (far : D → ℕ) (says : O → Says) (net : Type 0) (old new : View D O) (was now : List Closed) (before after : NetFault → ℕ) (id : ItemId) (slices at : ℕ) (course : Course) : Type 0 where
   pub end : Ended
-  pub course_is : course ≡ course_behind (journal_kind_of end) (Brings id slices)
+  pub course_is : course ≡ course_behind end (Brings id slices)
   pub brought : Brought tells clock says far counts net old new was now before after id slices at end
   pub goes : BringGoes tells clock counts far says old new id brought.fetched
   pub ends : Waits id old.items.items → IsSmooth tells clock says counts net old new was now before after id User at → EndsWell tells clock says far counts old new was before id at (said_by new.items.items (Brings id slices))

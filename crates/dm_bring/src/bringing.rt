@@ -32,7 +32,7 @@ fn bring_item<D: Disk, N: Net>(
 {
     let _kept = desk.items();
     let ended = fetch(alloc, desk, net, id, slices, turns, at);
-    course_behind(ended.journal_kind(), Course::Brings(id, slices))
+    course_behind(&ended, Course::Brings(id, slices))
 }
 
 /// Brings the item where the course says so, by an attempt of the user and those that the item makes by itself, and

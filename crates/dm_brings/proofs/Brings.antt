@@ -21,6 +21,7 @@ use Rattle.dm_fetch.specs.Fetches.{Fetched}
 use Rattle.dm_does.specs.Answering.{IsOfAttempt}
 use Rattle.dm_does.specs.World.{IsLater, World}
 use Rattle.dm_brings.specs.Bringing.{Brought, world_of}
+use Rattle.dm_brings.proofs.Resting.{fetch_rests}
 use Rattle.dm_brings.proofs.Steps.{BrokeBy, Stepped, fetch_step}
 
 -- the kind that an answer tells is one that was counted
@@ -56,4 +57,5 @@ brought_of tells clock says far counts net id slices at old new was now before a
         only = subst (λ (failed : History). AllByRecursion (IsOfAttempt (world_of clock counts old was before) (world_of clock counts new now after) id at) (step.recorded ++ failed)) (sym step.went.failed_is) step.only;
         counted = counted_by (counts old.disk) (counts new.disk) end step.failed step.broken step.by;
       };
+      rests = λ waits. fetch_rests tells clock says far counts net id slices at new now after end old was before did.more whole none waits did.all;
     }

@@ -41,7 +41,7 @@ by_unread says words at start end before after said sound kept none shows (inr t
 
 by_work : (brings : Bringing) (tells : Type 0) (words : List (List ℕ)) (at : ℕ) (before after : World) (log : Log) (said : Said) (job : Job) → HasJob words job → NoneRose before.disk_faults after.disk_faults
     → Came brings tells at before after (does job (given_by (opened_of log) at)) log said → Gives words at said (Opened log)
-by_work brings tells words at before after log said job has none (all whole none_failed went is) = completing.all log (record {
+by_work brings tells words at before after log said job has none (all whole none_failed went is rests) = completing.all log (record {
   job = job;
   has = has;
   whole = whole;
@@ -49,6 +49,7 @@ by_work brings tells words at before after log said job has none (all whole none
   fetched = went.fetched;
   more_is = went.more_is;
   says = is;
+  rests = rests;
 })
 by_work brings tells words at before after log said job has none (fell kind entry is_broken failed_is cut failed is) = absurd (none kind failed)
 by_work brings tells words at before after log said job has none (broke kind is_broken went is) =

@@ -160,7 +160,7 @@ not_memory reason same = cc
 -- The item waits behind the job's own entries (`does_wait`).
 pub told_counted : (brings : Bringing) (tells : Type 0) (at : ℕ) (before after : World) (doing : Doing) (log : Log) (said : Said) (id : ItemId) (slices : ℕ) (reason : Reason) → doing.course ≡ Brings id slices → IsLawful (log.found ++ tried_of log)
     → Waits id (items_of (opened_of log ++ doing.entries)) → Came brings tells at before after doing log said → said.verdict ≡ verdicts.Interrupted reason → IsCounted before after reason
-told_counted brings tells at before after doing log said id slices reason course lawful waits (all whole none_failed went is) told =
+told_counted brings tells at before after doing log said id slices reason course lawful waits (all whole none_failed went is rests) told =
     let history = opened_of log ++ doing.entries in
     let kept : kept_of log ≡ history ++ went.fetched =
     ap (λ (h : History). log.found ++ (log.opening ++ h)) went.more_is ∙ ap (λ (h : History). log.found ++ h) (sym (append_assoc log.opening doing.entries went.fetched))
@@ -216,7 +216,7 @@ ends_never verdict show reason of_list is = cc
 
 said_ends : (brings : Bringing) (tells : Type 0) (at : ℕ) (before after : World) (doing : Doing) (log : Log) (said : Said) (verdict : Verdict) (show : Show) (reason : Reason) → doing.course ≡ Ends verdict show → IsOfList doing.course
     → Came brings tells at before after doing log said → said.verdict ≡ verdicts.Interrupted reason → ⊥
-said_ends brings tells at before after doing log said verdict show reason course of_list (all whole none_failed went is) told =
+said_ends brings tells at before after doing log said verdict show reason course of_list (all whole none_failed went is rests) told =
     ends_never verdict show reason (subst IsOfList course of_list) (sym (ap (λ (s : Said). s.verdict) (is ∙ ap (said_by (items_of (kept_of log))) course)) ∙ told)
 said_ends brings tells at before after doing log said verdict show reason course of_list (fell kind entry is_broken failed_is cut failed is) told = not_failed kind reason (told_of said (verdicts.DiskFailed kind) reason (ap (λ (s : Said). s.verdict) is) told)
 said_ends brings tells at before after doing log said verdict show reason course of_list (broke kind is_broken went is) told = not_failed kind reason (told_of said (verdicts.DiskFailed kind) reason (ap (λ (s : Said). s.verdict) is) told)

@@ -17,7 +17,7 @@ use Rattle.dm_report.specs.declared.verdict.Verdict.{Verdict}
 use Rattle.dm_report.specs.declared.verdict.Verdict.TheVariants as verdicts
 use Rattle.dm_does.specs.declared.course.Course.{Course}
 use Rattle.dm_does.specs.declared.course.Course.TheVariants.{Ends, Brings}
-use Rattle.dm_does.specs.Answering.{Bringing, Came, Follows, WentOn, all, broke, fell, stopped, unsaid}
+use Rattle.dm_does.specs.Answering.{Bringing, Came, Follows, Rests, WentOn, all, broke, fell, stopped, unsaid}
 use Rattle.dm_does.specs.Doing.{Doing}
 use Rattle.dm_does.specs.Laws.{IsOfList}
 use Rattle.dm_does.specs.Log.{Log, kept_of, opened_of}
@@ -42,7 +42,7 @@ module _ (brings : Bringing) (tells : Type 0) (at : ℕ) (before after : World) 
 
   -- Only where: what is said, but for a failure of the disk and for want of memory, is that of the list at the end.
   said_all : Came brings tells at before after doing log said → said.verdict ≢ verdicts.NoMemory → ((kind : DiskKind) → said.verdict ≢ verdicts.DiskFailed kind) → said ≡ said_by (items_of (kept_of log)) doing.course
-  said_all (all whole none_failed went is) no_memory no_fault = is
+  said_all (all whole none_failed went is rests) no_memory no_fault = is
   said_all (fell kind entry is_broken failed_is cut failed is) no_memory no_fault = absurd (no_fault kind (verdict_is (verdicts.DiskFailed kind) is))
   said_all (broke kind is_broken went is) no_memory no_fault = absurd (no_fault kind (verdict_is (verdicts.DiskFailed kind) is))
   said_all (stopped whole none_failed cut is) no_memory no_fault = absurd (no_memory (verdict_is verdicts.NoMemory is))
@@ -50,15 +50,23 @@ module _ (brings : Bringing) (tells : Type 0) (at : ℕ) (before after : World) 
 
   -- Always where: on a desk that isn't broken, but for want of memory.
   said_whole : Came brings tells at before after doing log said → log.broken ≡ false → said.verdict ≢ verdicts.NoMemory → said ≡ said_by (items_of (kept_of log)) doing.course
-  said_whole (all whole none_failed went is) here no_memory = is
+  said_whole (all whole none_failed went is rests) here no_memory = is
   said_whole (fell kind entry is_broken failed_is cut failed is) here no_memory = absurd (false≢true (sym here ∙ is_broken))
   said_whole (broke kind is_broken went is) here no_memory = absurd (false≢true (sym here ∙ is_broken))
   said_whole (stopped whole none_failed cut is) here no_memory = absurd (no_memory (verdict_is verdicts.NoMemory is))
   said_whole (unsaid whole none_failed went is) here no_memory = absurd (no_memory (verdict_is verdicts.NoMemory is))
 
+  -- An item of which something else is said than a failure of the disk or want of memory rests.
+  said_rests : Came brings tells at before after doing log said → said.verdict ≢ verdicts.NoMemory → ((kind : DiskKind) → said.verdict ≢ verdicts.DiskFailed kind) → Rests (items_of (kept_of log)) doing.course
+  said_rests (all whole none_failed went is rests) no_memory no_fault = rests
+  said_rests (fell kind entry is_broken failed_is cut failed is) no_memory no_fault = absurd (no_fault kind (verdict_is (verdicts.DiskFailed kind) is))
+  said_rests (broke kind is_broken went is) no_memory no_fault = absurd (no_fault kind (verdict_is (verdicts.DiskFailed kind) is))
+  said_rests (stopped whole none_failed cut is) no_memory no_fault = absurd (no_memory (verdict_is verdicts.NoMemory is))
+  said_rests (unsaid whole none_failed went is) no_memory no_fault = absurd (no_memory (verdict_is verdicts.NoMemory is))
+
   -- A broken desk is always told as a failure of the disk, of a kind that was counted.
   said_broken : Came brings tells at before after doing log said → log.broken ≡ true → (kind : DiskKind) × Failed before after kind × (said ≡ only (verdicts.DiskFailed kind))
-  said_broken (all whole none_failed went is) here = absurd (false≢true (sym whole ∙ here))
+  said_broken (all whole none_failed went is rests) here = absurd (false≢true (sym whole ∙ here))
   said_broken (fell kind entry is_broken failed_is cut failed is) here = (kind, failed, is)
   said_broken (broke kind is_broken went is) here = (kind, went_failed brings tells at before after doing log kind went, is)
   said_broken (stopped whole none_failed cut is) here = absurd (false≢true (sym whole ∙ here))
@@ -86,7 +94,7 @@ never_said items (Ends verdict show) kind of_list is = cc
 -- So a failure of the disk is said only where a call failed.
 pub said_failed : (brings : Bringing) (tells : Type 0) (at : ℕ) (before after : World) (doing : Doing) (log : Log) (said : Said) (kind : DiskKind) → IsOfList doing.course → Came brings tells at before after doing log said
     → said.verdict ≡ verdicts.DiskFailed kind → (log.broken ≡ true) × ((other : DiskKind) × Failed before after other × (said ≡ only (verdicts.DiskFailed other)))
-said_failed brings tells at before after doing log said kind of_list (all whole none_failed went is) told =
+said_failed brings tells at before after doing log said kind of_list (all whole none_failed went is rests) told =
     absurd (never_said (items_of (kept_of log)) doing.course kind of_list (sym (ap (λ (s : Said). s.verdict) is) ∙ told))
 said_failed brings tells at before after doing log said kind of_list (fell other entry is_broken failed_is cut failed is) told = (is_broken, (other, failed, is))
 said_failed brings tells at before after doing log said kind of_list (broke other is_broken went is) told = (is_broken, (other, went_failed brings tells at before after doing log other went, is))

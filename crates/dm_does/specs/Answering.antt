@@ -10,8 +10,11 @@ use Rattle.dm_types.specs.declared.kinds.DiskKind.{DiskKind}
 use Rattle.dm_types.specs.declared.kinds.DiskKind.TheVariants as kinds
 use Rattle.dm_types.specs.declared.reason.Reason.{Reason}
 use Rattle.dm_types.specs.declared.reason.Reason.TheVariants as reasons
+use Rattle.dm_policy.specs.Mode.{is_immediate}
 use Rattle.dm_edge.specs.declared.fault.NetFault.TheVariants as nets
 use Rattle.dm_item.specs.Lawful.{History, IsLawful, items_of, left_by}
+use Rattle.dm_item.specs.Listing.{item_in}
+use Rattle.dm_item.specs.Row.{mode_of_item}
 use Rattle.dm_kept.specs.Room.{IsTaken}
 use Rattle.dm_report.specs.Said.{Said, only}
 use Rattle.dm_report.specs.declared.verdict.Verdict.TheVariants.{Damaged, DiskFailed, NoMemory}
@@ -97,17 +100,22 @@ pub record WasCut (before after : World) (doing : Doing) (log : Log) : Type 0 wh
   pub entries_are : doing.entries ≡ log.more ++ (log.failed ++ rest)
   pub none_closed : NoneClosed before after
 
+-- The item that was brought rests: by its mode it makes no further attempt by itself.
+abbrev pub Rests : List Item → Course → Type 0
+Rests items (Ends verdict show) = Unit {0}
+Rests items (Brings id slices) = (item : Item) → item_in id.0 items ≡ Some item → IsTrue (is_immediate (mode_of_item item)) → ⊥
+
 -- What a job did to a list that was opened, and what it says.
 pub data Came (brings : Bringing) (tells : Type 0) (at : ℕ) (before after : World) (doing : Doing) (log : Log) (said : Said) : Type 0 where
-  -- all of it was done: it says what it says of the items at the end
-  all : log.broken ≡ false → log.failed ≡ [] → WentOn brings tells at before after doing log None → said ≡ said_by (items_of (kept_of log)) doing.course → Came brings tells at before after doing log said
+  -- all of it was done, and an item that was brought rests: it says what it says of the items at the end
+  all : log.broken ≡ false → log.failed ≡ [] → WentOn brings tells at before after doing log None → said ≡ said_by (items_of (kept_of log)) doing.course → Rests (items_of (kept_of log)) doing.course → Came brings tells at before after doing log said
   -- an entry of its own failed
   fell : (kind : DiskKind) (entry : Entry) → log.broken ≡ true → log.failed ≡ entry ∷ [] → WasCut before after doing log → Failed before after kind → said ≡ only (DiskFailed kind) → Came brings tells at before after doing log said
   -- the journal or a publication failed while an item was brought
   broke : (kind : DiskKind) → log.broken ≡ true → WentOn brings tells at before after doing log (Some kind) → said ≡ only (DiskFailed kind) → Came brings tells at before after doing log said
   -- memory was wanting for its own entries
   stopped : log.broken ≡ false → log.failed ≡ [] → WasCut before after doing log → said ≡ only NoMemory → Came brings tells at before after doing log said
-  -- or behind them, or for what it says
+  -- or behind them, for an attempt of the user's or one that the item would have made by itself, or for what it says
   unsaid : log.broken ≡ false → log.failed ≡ [] → WentOn brings tells at before after doing log None → said ≡ only NoMemory → Came brings tells at before after doing log said
 
 -- A job on a list that was opened. All that was tried is lawful behind what was found, the opening did what openings do, no later entry opens the list again, and the job's part is that

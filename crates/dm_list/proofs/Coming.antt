@@ -32,7 +32,7 @@ use Rattle.dm_does.specs.declared.course.Course.TheVariants.{Ends, Brings}
 use Rattle.dm_does.specs.declared.course.Show.{Show}
 use Rattle.dm_does.specs.declared.course.Show.TheVariants.{Nothing}
 use Rattle.dm_does.specs.declared.job.Job.{Job}
-use Rattle.dm_does.specs.Answering.{given_by, Bringing, Came, Follows, IsBrought, IsOver, WasCut, WentOn, all, broke, fell, stopped, unsaid}
+use Rattle.dm_does.specs.Answering.{given_by, Bringing, Came, Follows, IsBrought, IsOver, Rests, WasCut, WentOn, all, broke, fell, stopped, unsaid}
 use Rattle.dm_does.specs.Deciding.{Decides, Did}
 use Rattle.dm_does.specs.Deciding as deciding
 use Rattle.dm_does.specs.Doing.{Doing, Given, does}
@@ -52,7 +52,10 @@ use Rattle.dm_disk_model.specs.Moments.{Throughout}
 use Rattle.dm_disk_model.proofs.Reaching.{joined, weaker}
 use Rattle.dm_item.proofs.Histories.{keeps_step}
 use Rattle.dm_store.proofs.Saved.{rose_first, rose_last}
+use Rattle.dm_answers.specs.declared.fault.DeskFault.TheVariants as faults
 use Rattle.dm_attempt.specs.Ending.{journal_kind_of}
+use Rattle.dm_attempt.specs.declared.ended.Ended.{Ended}
+use Rattle.dm_attempt.specs.declared.ended.Ended.TheVariants as ended_as
 use Rattle.dm_brings.specs.Bringing.{brings_of, course_behind}
 use Rattle.dm_brings.specs.Completed.{EndsWell}
 use Rattle.dm_brings.specs.Completed as completed
@@ -347,10 +350,16 @@ module _ {D O : Type 0} (tells : Type 0) (clock : D → Clock) (counts : D → D
   abbrev CameHere : Type 0
   CameHere = Came brings tells at first last doing log said
 
+  either : (said ≡ only verdicts.NoMemory) ⊎ (said ≡ only verdicts.NoMemory) → said ≡ only verdicts.NoMemory
+  either (inl is) = is
+  either (inr is) = is
+
   -- What is said of all that was done.
-  said_all : (items : List Item) (course : Course) → items ≡ items_of (kept_of log) → course ≡ doing.course → WentOn brings tells at first last doing log None → log.broken ≡ false → log.failed ≡ [] → EndsAs (said_by items course) said → CameHere
-  said_all items course items_are course_is went whole none (inl is) = all whole none went (is ∙ ap (λ (i : List Item). said_by i course) items_are ∙ ap (said_by (items_of (kept_of log))) course_is)
-  said_all items course items_are course_is went whole none (inr is) = unsaid whole none went is
+  said_all : (items : List Item) (course : Course) → items ≡ items_of (kept_of log) → course ≡ doing.course → WentOn brings tells at first last doing log None → log.broken ≡ false → log.failed ≡ [] → Rests items course → EndsAs (said_by items course) said → CameHere
+  said_all items course items_are course_is went whole none rests (inl is) =
+      all whole none went (is ∙ ap (λ (i : List Item). said_by i course) items_are ∙ ap (said_by (items_of (kept_of log))) course_is)
+      (subst (Rests (items_of (kept_of log))) course_is (subst (λ (i : List Item). Rests i course) items_are rests))
+  said_all items course items_are course_is went whole none rests (inr is) = unsaid whole none went is
 
   came_over : (verdict : Verdict) (show : Show) → doing.course ≡ Ends verdict show → Did doing opened between → onward ≡ doing.course → IsIdle was closed before after → CameHere
   came_over verdict show is there on idle =
@@ -361,7 +370,7 @@ module _ {D O : Type 0} (tells : Type 0) (clock : D → Clock) (counts : D → D
         more_is = more_is doing.entries [] false went ∙ sym (append-nil doing.entries);
         follows = subst (λ (c : Course). Follows brings tells at first last c ((found ++ opened.list) ++ doing.entries) [] log.failed None) (sym is)
             (record { none = refl; none_failed = failed_here doing.entries [] false went; whole = refl; none_closed = idle.0 });
-      }) (broken_here doing.entries [] false went) (failed_here doing.entries [] false went) worked.says_is
+      }) (broken_here doing.entries [] false went) (failed_here doing.entries [] false went) (subst (Rests between.items.items) (sym (on ∙ is)) tt) worked.says_is
 
   module _ (id : ItemId) (slices : ℕ) (is : doing.course ≡ Brings id slices) (there : Did doing opened decided) (b : WasBrought tells clock counts far says net decided between was closed before after id slices at onward) where
     recorded_all : History
@@ -384,19 +393,36 @@ module _ {D O : Type 0} (tells : Type 0) (clock : D → Clock) (counts : D → D
           to_decided refl from_between refl (b.brought.brought ((found ++ opened.list) ++ doing.entries) (carried_of there)))));
     }
 
-    came_by : (kind : Option DiskKind) → journal_kind_of b.end ≡ kind → CameHere
-    came_by None kind_is =
-        let whole : between.broken ≡ false = b.brought.broken ∙ ap (λ (k : Option DiskKind). is_some k) kind_is in
-        said_all between.items.items onward (items_here (doing.entries ++ b.brought.fetched) between.failed between.broken went_all)
-        (b.course_is ∙ ap (λ (k : Option DiskKind). course_behind k (Brings id slices)) kind_is ∙ sym is) (went_on None kind_is)
-        (broken_here (doing.entries ++ b.brought.fetched) between.failed between.broken went_all ∙ whole) (failed_all ∙ worked.unfailed whole) worked.says_is
-    came_by (Some kind) kind_is =
-        let broken : between.broken ≡ true = b.brought.broken ∙ ap (λ (k : Option DiskKind). is_some k) kind_is in
-        broke kind (broken_here (doing.entries ++ b.brought.fetched) between.failed between.broken went_all ∙ broken) (went_on (Some kind) kind_is)
-        (subst (λ (c : Course). SaysFailure c said) (b.course_is ∙ ap (λ (k : Option DiskKind). course_behind k (Brings id slices)) kind_is) worked.fails)
+    -- no failure is told, and the desk isn't broken
+    unbroken : journal_kind_of b.end ≡ None → between.broken ≡ false
+    unbroken none = b.brought.broken ∙ ap (λ (k : Option DiskKind). is_some k) none
+
+    -- the course goes on as it was
+    came_onward : journal_kind_of b.end ≡ None → onward ≡ Brings id slices → CameHere
+    came_onward none on =
+        said_all between.items.items onward (items_here (doing.entries ++ b.brought.fetched) between.failed between.broken went_all) (on ∙ sym is) (went_on None none)
+        (broken_here (doing.entries ++ b.brought.fetched) between.failed between.broken went_all ∙ unbroken none) (failed_all ∙ worked.unfailed (unbroken none))
+        (subst (Rests between.items.items) (sym b.course_is) (b.brought.rests (carried_waits id slices is there))) worked.says_is
+
+    -- memory was wanting
+    came_unsaid : journal_kind_of b.end ≡ None → onward ≡ Ends verdicts.NoMemory Nothing → CameHere
+    came_unsaid none on =
+        unsaid (broken_here (doing.entries ++ b.brought.fetched) between.failed between.broken went_all ∙ unbroken none) (failed_all ∙ worked.unfailed (unbroken none)) (went_on None none)
+        (either (subst (λ (c : Course). EndsAs (said_by between.items.items c) said) on worked.says_is))
+
+    -- the journal or a publication failed
+    came_broke : (kind : DiskKind) → journal_kind_of b.end ≡ Some kind → onward ≡ Ends (verdicts.DiskFailed kind) Nothing → CameHere
+    came_broke kind kind_is on =
+        broke kind (broken_here (doing.entries ++ b.brought.fetched) between.failed between.broken went_all ∙ b.brought.broken ∙ ap (λ (k : Option DiskKind). is_some k) kind_is) (went_on (Some kind) kind_is)
+        (subst (λ (c : Course). SaysFailure c said) on worked.fails)
+
+    came_by : (end : Ended) → b.end ≡ end → CameHere
+    came_by (ended_as.Fault (faults.Journal kind)) end_is = came_broke kind (ap journal_kind_of end_is) (b.course_is ∙ ap (λ (e : Ended). course_behind e (Brings id slices)) end_is)
+    came_by (ended_as.Fault faults.NoMemory) end_is = came_unsaid (ap journal_kind_of end_is) (b.course_is ∙ ap (λ (e : Ended). course_behind e (Brings id slices)) end_is)
+    came_by end end_is = came_onward (ap journal_kind_of end_is) (b.course_is ∙ ap (λ (e : Ended). course_behind e (Brings id slices)) end_is)
 
     came_carried : CameHere
-    came_carried = came_by (journal_kind_of b.end) refl
+    came_carried = came_by b.end refl
 
   came_cut : (kind : DiskKind) (failed : Fell opened between doing.entries) → Rose (counts opened.disk kind) (counts between.disk kind) → onward ≡ Ends (verdicts.DiskFailed kind) Nothing → IsIdle was closed before after → CameHere
   came_cut kind failed rose on idle =
@@ -423,10 +449,6 @@ module _ {D O : Type 0} (tells : Type 0) (clock : D → Clock) (counts : D → D
         entries_are = ap (λ (h : History). h ++ doing.entries) (sym more) ∙ ap (λ (h : History). log.more ++ (h ++ doing.entries)) (sym none);
         none_closed = idle.0;
       }) (either (subst (λ (c : Course). EndsAs (said_by between.items.items c) said) on worked.says_is))
-    where
-      either : (said ≡ only verdicts.NoMemory) ⊎ (said ≡ only verdicts.NoMemory) → said ≡ only verdicts.NoMemory
-      either (inl is) = is
-      either (inr is) = is
 
   came_here : CameHere
   came_here = by outcome
@@ -516,20 +538,18 @@ module _ {D O : Type 0} (tells : Type 0) (clock : D → Clock) (counts : D → D
         stated = favoured.stated;
       }
 
-      -- no call on the disk failed, so the course goes on as it was
-      went_whole : (kind : Option DiskKind) → IfSome kind (Failed (world_of clock counts before was decided.disk) (world_of clock counts after closed between.disk)) → course_behind kind (Brings id slices) ≡ Brings id slices
-      went_whole None failed = refl
-      went_whole (Some kind) failed = absurd (narrower (counts decided.disk) (counts between.disk) to_decided.disk_later worked.behind.later none kind failed)
-
       counted : (kind : Option DiskKind) (first_world last_world : World) → IsLater tells (world_of clock counts before was decided.disk) first_world → IsLater tells last_world (world_of clock counts after closed between.disk) → IfSome kind (Failed first_world last_world)
           → IfSome kind (Failed (world_of clock counts before was decided.disk) (world_of clock counts after closed between.disk))
       counted None first_world last_world one two failed = tt
       counted (Some kind) first_world last_world one two failed = rose_wider (counts decided.disk kind) (first_world.disk_faults kind) (last_world.disk_faults kind) (counts between.disk kind) (one.disk_later kind) failed (two.disk_later kind)
 
-      onward_is : onward ≡ Brings id slices
-      onward_is =
+      -- no call on the disk failed
+      none_failed : (kind : DiskKind) → journal_kind_of b.end ≡ Some kind → ⊥
+      none_failed kind kind_is =
           let brought = b.brought.brought ((found ++ opened.list) ++ doing.entries) (carried_of there) in
-          b.course_is ∙ went_whole (journal_kind_of b.end) (counted (journal_kind_of b.end) brought.from brought.to brought.first brought.last brought.counted)
+          let failed = counted (journal_kind_of b.end) brought.from brought.to brought.first brought.last brought.counted in
+          narrower (counts decided.disk) (counts between.disk) to_decided.disk_later worked.behind.later none kind
+          (subst (λ (k : Option DiskKind). IfSome k (Failed (world_of clock counts before was decided.disk) (world_of clock counts after closed between.disk))) kind_is failed)
 
       abbrev Well : Said → Type 0
       Well said_so = EndsWell tells clock says far counts decided between was before id at said_so
@@ -537,6 +557,13 @@ module _ {D O : Type 0} (tells : Type 0) (clock : D → Clock) (counts : D → D
       said_well : EndsAs (said_by between.items.items (Brings id slices)) said → Well (said_by between.items.items (Brings id slices)) → Well said
       said_well (inl same) well = subst Well (sym same) well
       said_well (inr same) well = completed.wanting same
+
+      -- so the course goes on as it was, or memory was wanting
+      well_by : (end : Ended) → b.end ≡ end → Well (said_by between.items.items (Brings id slices)) → Well said
+      well_by (ended_as.Fault (faults.Journal kind)) end_is well = absurd (none_failed kind (ap journal_kind_of end_is))
+      well_by (ended_as.Fault faults.NoMemory) end_is well =
+          completed.wanting (either (subst (λ (c : Course). EndsAs (said_by between.items.items c) said) (b.course_is ∙ ap (λ (e : Ended). course_behind e (Brings id slices)) end_is) worked.says_is))
+      well_by end end_is well = said_well (subst (λ (c : Course). EndsAs (said_by between.items.items c) said) (b.course_is ∙ ap (λ (e : Ended). course_behind e (Brings id slices)) end_is) worked.says_is) well
 
       brings_well : BringsWell tells clock says far counts net (clock start) (clock ended.disk) was closed before after log doing.entries id at said
       brings_well =
@@ -551,16 +578,12 @@ module _ {D O : Type 0} (tells : Type 0) (clock : D → Clock) (counts : D → D
             behind = from_between.moments_stay told;
             item = waits.item;
             there = waits.there;
-            ends = λ favoured. said_well (subst (λ (c : Course). EndsAs (said_by between.items.items c) said) onward_is worked.says_is) (b.ends waits (smooth favoured));
+            ends = λ favoured. well_by b.end refl (b.ends waits (smooth favoured));
           }
 
     completes_here : (id : ItemId) (slices : ℕ) → doing.course ≡ Brings id slices → BringsWell tells clock says far counts net (clock start) (clock ended.disk) was closed before after log doing.entries id at said ⊎ (said ≡ only verdicts.NoMemory)
     completes_here id slices is = by outcome
       where
-        either : (said ≡ only verdicts.NoMemory) ⊎ (said ≡ only verdicts.NoMemory) → said ≡ only verdicts.NoMemory
-        either (inl same) = same
-        either (inr same) = same
-
         by : Outcome → BringsWell tells clock says far counts net (clock start) (clock ended.disk) was closed before after log doing.entries id at said ⊎ (said ≡ only verdicts.NoMemory)
         by (over verdict show ends there on own idle) = absurd (subst IsBringing (sym is ∙ ends) tt)
         by (carried other more other_is there b) =

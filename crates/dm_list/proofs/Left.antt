@@ -94,7 +94,7 @@ shows_as : (start end : Clock) (said other : Said) → said ≡ other → ShowsD
 shows_as start end said other same shows = subst (λ (s : Said). ShowsDamage start end s.verdict) (sym same) shows
 
 never_damaged : (start end : Clock) (brings : Bringing) (tells : Type 0) (at : ℕ) (before after : World) (doing : Doing) (log : Log) (said : Said) → IsOfList doing.course → Came brings tells at before after doing log said → ShowsDamage start end said.verdict
-never_damaged start end brings tells at before after doing log said of_list (all whole none_failed went is) = shows_as start end said _ is (said_whole start end _ doing.course of_list)
+never_damaged start end brings tells at before after doing log said of_list (all whole none_failed went is rests) = shows_as start end said _ is (said_whole start end _ doing.course of_list)
 never_damaged start end brings tells at before after doing log said of_list (fell kind entry is_broken failed_is some failed is) = shows_as start end said (only (verdicts.DiskFailed kind)) is tt
 never_damaged start end brings tells at before after doing log said of_list (broke kind is_broken went is) = shows_as start end said (only (verdicts.DiskFailed kind)) is tt
 never_damaged start end brings tells at before after doing log said of_list (stopped whole none_failed some is) = shows_as start end said (only verdicts.NoMemory) is tt

@@ -1,9 +1,6 @@
-use Rattle.std.proofs.Common.{refl, ◌∙◌, ap}
-use Rattle.std.specs.Prelude.{Option}
-use Rattle.dm_types.specs.declared.kinds.DiskKind.{DiskKind}
+use Rattle.std.proofs.Common.{refl}
 use Rattle.dm_store.specs.Origin.{said_of}
 use Rattle.dm_does.specs.declared.course.Course.TheVariants.{Brings}
-use Rattle.dm_brings.specs.Bringing.{course_behind}
 use Rattle.dm_does.specs.Saying.{said_by}
 use Rattle.dm_brings.proofs.Brings.{brought_of}
 use Rattle.dm_brings.proofs.Completed.{ends_well}
@@ -20,7 +17,7 @@ returns-clause-brought g c =
     (N.faults c.args.net.now) (N.faults c.fetch-ended.new.net) c.fetch-ended.result c.requires.whole none did in
     record {
       end = c.fetch-ended.result;
-      course_is = c.course_behind.ensures ∙ ap (λ (k : Option DiskKind). course_behind k (Brings c.args.id c.args.slices)) c.journal_kind.ensures;
+      course_is = c.course_behind.ensures;
       brought = brought;
       goes = fetch_goes D.tells D.history (λ o. said_of (g.N.O.Origin.says o)) D.far D.faults N.tells c.args.id c.args.slices c.args.at g.met.D.Disk.sound c.args.desk.now c.fetch-ended.new.desk (N.closed c.args.net.now) (N.closed c.fetch-ended.new.net)
           (N.faults c.args.net.now) (N.faults c.fetch-ended.new.net) c.fetch-ended.result c.requires.whole none did brought;
