@@ -46,14 +46,14 @@ brought_of tells clock says far counts net id slices at old new was now before a
       fetched = step.recorded;
       list = step.went.list_is;
       broken = step.went.broken_is ∙ broken_by (counts old.disk) (counts new.disk) end step.failed step.broken step.by;
-      brought = λ history held. record {
+      brought = λ history held limits_are. record {
         from = world_of clock counts old was before;
         to = world_of clock counts new now after;
         first = at_once tells (world_of clock counts old was before);
         last = at_once tells (world_of clock counts new now after);
         none_first = refl;
         none_last = refl;
-        is = record { old = old; new = new; end = end; held = held; from_is = refl; to_is = refl; did = did; list = step.went.list_is; failed_is = refl; broke_is = refl };
+        is = record { old = old; new = new; end = end; held = held; limits_are = limits_are; from_is = refl; to_is = refl; did = did; list = step.went.list_is; failed_is = refl; broke_is = refl };
         only = subst (λ (failed : History). AllByRecursion (IsOfAttempt (world_of clock counts old was before) (world_of clock counts new now after) id at) (step.recorded ++ failed)) (sym step.went.failed_is) step.only;
         counted = counted_by (counts old.disk) (counts new.disk) end step.failed step.broken step.by;
       };

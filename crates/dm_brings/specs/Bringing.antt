@@ -1,6 +1,8 @@
 -- What `fetch` does, as what a run's clause says of its driver.
 use Rattle.std.specs.Prelude.{◌≡◌, ℕ, List, ◌++◌, Option, Some, None, is_some}
+use Rattle.dm_types.specs.Limits.{most_items, most_min_slice, most_piece, most_unsaved}
 use Rattle.dm_types.specs.declared.item.ItemId.{ItemId}
+use Rattle.dm_types.specs.declared.item.Limits.{Limits}
 use Rattle.dm_types.specs.declared.kinds.DiskKind.{DiskKind}
 use Rattle.dm_edge.specs.Wire.{Closed}
 use Rattle.dm_edge.specs.declared.fault.NetFault.{NetFault}
@@ -25,12 +27,17 @@ use Rattle.dm_does.specs.World.{World}
 abbrev pub world_of : {D O : Type 0} → (D → Clock) → (D → DiskKind → ℕ) → View D O → List Closed → (NetFault → ℕ) → World
 world_of clock counts desk closed faults = record { disk = clock desk.disk; disk_faults = counts desk.disk; net_faults = faults; closed = closed }
 
--- Some desk held this history, and `fetch` brought the item there between these worlds: these entries were recorded, this one failed, and so ended what the journal's failure ended.
+-- how much a desk takes on with which the program brings an item: the greatest number of each limit
+abbrev pub program_limits : Limits
+program_limits = record { items = most_items; checkpoint = most_unsaved; piece = most_piece; min_slice = most_min_slice; journal = 16777216 }
+
+-- Some desk with the program's limits held this history, and `fetch` brought the item there between these worlds: these entries were recorded, this one failed, and so ended what the journal's failure ended.
 pub record FetchedBy {D O : Type 0} (tells : Type 0) (clock : D → Clock) (says : O → Says) (far : D → ℕ) (counts : D → DiskKind → ℕ) (net : Type 0) (at : ℕ) (from to : World) (id : ItemId) (slices : ℕ) (history fetched failed : History) (broke : Option DiskKind) : Type 0 where
   pub old : View D O
   pub new : View D O
   pub end : Ended
   pub held : IsOf history old.items
+  pub limits_are : old.limits ≡ program_limits
   pub from_is : from ≡ world_of clock counts old from.closed from.net_faults
   pub to_is : to ≡ world_of clock counts new to.closed to.net_faults
   pub did : Fetched tells clock says far counts net old new from.closed to.closed from.net_faults to.net_faults id slices at end
@@ -48,12 +55,12 @@ course_behind (ended.Fault (desks.Journal kind)) course = Ends (verdicts.DiskFai
 course_behind (ended.Fault desks.NoMemory) course = Ends verdicts.NoMemory Nothing
 course_behind end course = course
 
--- What `fetch` did at a desk that wasn't broken is what a run's clause says of its driver, behind each history that the desk held. The desk is broken behind it just where the journal or a
+-- What `fetch` did at a desk that wasn't broken is what a run's clause says of its driver, behind each history that the desk held, where it works with the program's limits. The desk is broken behind it just where the journal or a
 -- publication failed. An item that waited rests then, unless one of the two is told: that, or that memory was wanting.
 pub record Brought {D O : Type 0} (tells : Type 0) (clock : D → Clock) (says : O → Says) (far : D → ℕ) (counts : D → DiskKind → ℕ) (net : Type 0) (old new : View D O) (was now : List Closed) (before after : NetFault → ℕ) (id : ItemId) (slices at : ℕ) (end : Ended) : Type 0 where
   pub fetched : History
   pub list : new.list ≡ old.list ++ fetched
   pub broken : new.broken ≡ is_some (journal_kind_of end)
-  pub brought : (history : History) → IsOf history old.items
+  pub brought : (history : History) → IsOf history old.items → old.limits ≡ program_limits
       → IsBrought (brings_of tells clock says far counts net at) tells at (world_of clock counts old was before) (world_of clock counts new now after) id slices history fetched new.failed (journal_kind_of end)
   pub rests : Waits id old.items.items → Rests new.items.items (course_behind end (Brings id slices))

@@ -56,7 +56,7 @@ use Rattle.dm_answers.specs.declared.fault.DeskFault.TheVariants as faults
 use Rattle.dm_attempt.specs.Ending.{journal_kind_of}
 use Rattle.dm_attempt.specs.declared.ended.Ended.{Ended}
 use Rattle.dm_attempt.specs.declared.ended.Ended.TheVariants as ended_as
-use Rattle.dm_brings.specs.Bringing.{brings_of, course_behind}
+use Rattle.dm_brings.specs.Bringing.{brings_of, course_behind, program_limits}
 use Rattle.dm_brings.specs.Completed.{EndsWell}
 use Rattle.dm_brings.specs.Completed as completed
 use Rattle.dm_fetch.specs.Completes.{IsSmooth}
@@ -231,6 +231,10 @@ module _ {D O : Type 0} (tells : Type 0) (clock : D → Clock) (counts : D → D
   pub carried_of : Did doing opened decided → IsOf ((found ++ opened.list) ++ doing.entries) decided.items
   carried_of there = (own_went decided there).lawful (found ++ opened.list) of
 
+  -- and the limits are the program's
+  pub carried_limits : Did doing opened decided → decided.limits ≡ program_limits
+  carried_limits there = (own_went decided there).limits ∙ w.limits
+
   -- What is removed behind them changes nothing.
 
   still_by : (broken : Bool) → between.broken ≡ broken → IsStill between ended
@@ -300,7 +304,7 @@ module _ {D O : Type 0} (tells : Type 0) (clock : D → Clock) (counts : D → D
   plain_carried id slices there b =
       let went = carried_went id slices there b in
       let recorded : History = doing.entries ++ b.brought.fetched in
-      let brought = b.brought.brought ((found ++ opened.list) ++ doing.entries) (carried_of there) in
+      let brought = b.brought.brought ((found ++ opened.list) ++ doing.entries) (carried_of there) (carried_limits there) in
       subst ArePlain
       (sym (ap (λ (h : History). h ++ log.failed) (more_is recorded between.failed between.broken went) ∙ ap (λ (h : History). recorded ++ h) (failed_here recorded between.failed between.broken went)
       ∙ append_assoc doing.entries b.brought.fetched between.failed))
@@ -390,7 +394,7 @@ module _ {D O : Type 0} (tells : Type 0) (clock : D → Clock) (counts : D → D
           (subst (λ (h : History). IsBrought brings tells at first last id slices ((found ++ opened.list) ++ doing.entries) b.brought.fetched h kind) (sym failed_all)
           (subst (λ (k : Option DiskKind). IsBrought brings tells at first last id slices ((found ++ opened.list) ++ doing.entries) b.brought.fetched between.failed k) kind_is
           (brought_wider brings tells at first (world_of clock counts before was decided.disk) (world_of clock counts after closed between.disk) last id slices ((found ++ opened.list) ++ doing.entries) b.brought.fetched between.failed (journal_kind_of b.end)
-          to_decided refl from_between refl (b.brought.brought ((found ++ opened.list) ++ doing.entries) (carried_of there)))));
+          to_decided refl from_between refl (b.brought.brought ((found ++ opened.list) ++ doing.entries) (carried_of there) (carried_limits there)))));
     }
 
     -- no failure is told, and the desk isn't broken
@@ -546,7 +550,7 @@ module _ {D O : Type 0} (tells : Type 0) (clock : D → Clock) (counts : D → D
       -- no call on the disk failed
       none_failed : (kind : DiskKind) → journal_kind_of b.end ≡ Some kind → ⊥
       none_failed kind kind_is =
-          let brought = b.brought.brought ((found ++ opened.list) ++ doing.entries) (carried_of there) in
+          let brought = b.brought.brought ((found ++ opened.list) ++ doing.entries) (carried_of there) (carried_limits there) in
           let failed = counted (journal_kind_of b.end) brought.from brought.to brought.first brought.last brought.counted in
           narrower (counts decided.disk) (counts between.disk) to_decided.disk_later worked.behind.later none kind
           (subst (λ (k : Option DiskKind). IfSome k (Failed (world_of clock counts before was decided.disk) (world_of clock counts after closed between.disk))) kind_is failed)

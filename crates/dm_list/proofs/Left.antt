@@ -8,6 +8,7 @@ use Rattle.dm_types.specs.Name.{IsPart}
 use Rattle.dm_types.specs.declared.entry.Entry.TheVariants as entries
 use Rattle.dm_types.specs.declared.item.Item.{Item}
 use Rattle.dm_types.specs.declared.item.ItemId.{ItemId}
+use Rattle.dm_types.specs.declared.item.Limits.{Limits}
 use Rattle.dm_types.specs.declared.item.Phase.{Phase}
 use Rattle.dm_types.specs.declared.item.Phase.TheVariants as phases
 use Rattle.dm_types.specs.declared.kinds.DiskKind.{DiskKind}
@@ -271,7 +272,7 @@ module _ {D O : Type 0} (tells : Type 0) (clock : D → Clock) (counts : D → D
 
   pub works : Works (brings_of tells clock says far counts net) tells first last job at log said
   works = record {
-    taken = subst (λ (n : ℕ). IsTaken n found) w.limits w.is.taken;
+    taken = subst (λ (n : ℕ). IsTaken n found) (ap (λ (l : Limits). l.items) w.limits) w.is.taken;
     lawful = coming.lawful tells clock counts far says net origin job at start end was closed before after said w;
     opened = tried_later (clock start) (clock w.opened.disk) (clock w.ended.disk) tells at found w.opened.list [] behind w.is.tried;
     once = coming.plain tells clock counts far says net origin job at start end was closed before after said w;

@@ -20,7 +20,7 @@ use Rattle.dm_answers.specs.declared.fault.OpenFault.{OpenFault}
 use Rattle.dm_answers.specs.declared.fault.OpenFault.TheVariants as opens
 use Rattle.dm_open.specs.Refused.{OpenRefuses, RunsOn}
 use Rattle.dm_does.specs.declared.job.Job.{Job}
-use Rattle.dm_brings.specs.Bringing.{brings_of}
+use Rattle.dm_brings.specs.Bringing.{brings_of, program_limits}
 use Rattle.dm_does.specs.Answering.{Answers, Bringing}
 use Rattle.dm_does.specs.Explaining.{Explains, Telling}
 use Rattle.dm_does.specs.Leaving.{KeepsAll, Leaves}
@@ -46,14 +46,14 @@ ShowsOpening before after (opens.Disk kind disk) = Rose (before kind) (after kin
 ShowsOpening before after (opens.Damaged place disk) = Unit {0}
 ShowsOpening before after (opens.NoMemory disk) = Unit {0}
 
--- The list was opened with this origin, and the job was done.
+-- The list was opened with this origin and the program's limits, and the job was done.
 pub record JobWorked {D O : Type 0} (tells : Type 0) (clock : D → Clock) (counts : D → DiskKind → ℕ) (far : D → ℕ) (says : O → Says) (net : Type 0) (origin : O) (job : Job) (at : ℕ) (start end : D) (was closed : List Closed) (before after : NetFault → ℕ) (said : Said) : Type 0 where
   pub opened : View D O
   pub ended : View D O
   pub end_is : end ≡ ended.disk
   pub origin_is : opened.origin ≡ origin
   pub limit : opened.items.limit ≡ most_items
-  pub limits : opened.limits.items ≡ most_items
+  pub limits : opened.limits ≡ program_limits
   pub is : IsOpened tells clock far (says origin) start at opened
   pub beside : tells → Besides (IsSettledName clock start) (clock start) (clock opened.disk)
   -- at each moment of the opening one of the two is kept, where the start was

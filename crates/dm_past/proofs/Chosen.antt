@@ -3,6 +3,7 @@ use Rattle.std.proofs.Common.{◌≡◌, ◌⊎◌, inl, inr, ℕ, Bool, true, f
 use Rattle.std.specs.Str.{bytes_eq}
 use Rattle.dm_types.specs.Faults.{NoneFell}
 use Rattle.dm_types.specs.Limits.{most_items}
+use Rattle.dm_types.specs.declared.item.Limits.{Limits}
 use Rattle.dm_types.specs.declared.item.Item.{Item}
 use Rattle.dm_types.specs.declared.item.ItemId.{ItemId}
 use Rattle.dm_types.specs.declared.item.Phase.TheVariants.{Cancelled}
@@ -30,7 +31,7 @@ use Rattle.dm_report.specs.declared.verdict.Verdict.TheVariants as verdicts
 use Rattle.dm_hist.specs.declared.row.Row.{Row}
 use Rattle.dm_hist.specs.Rows.{AreRows, is_there}
 use Rattle.dm_archive.specs.Doing.{Doing, Given, adds_row, drops_row, gets_row}
-use Rattle.dm_brings.specs.Bringing.{brings_of}
+use Rattle.dm_brings.specs.Bringing.{brings_of, program_limits}
 use Rattle.dm_does.specs.declared.job.Job.{Job}
 use Rattle.dm_does.specs.declared.job.Job.TheVariants as jobs
 use Rattle.dm_does.specs.Answering.{Bringing}
@@ -74,7 +75,7 @@ module _ {D O : Type 0} (tells told : Type 0) (clock : D → Clock) (counts : D 
   answered_shows rising never = page_shows tells told clock counts far says desk past past' is_desk whole rising (a.same (never (given_of desk past) a.doing a.is))
 
 module _ {D O : Type 0} (tells told : Type 0) (clock : D → Clock) (counts : D → DiskKind → ℕ) (far : D → ℕ) (says : O → Says) (net : Type 0) (origin : O) (job : Job) (at : ℕ) (start end : D) (was closed : List Closed) (before after : NetFault → ℕ) (past past' : Past) (said : Said)
-    (opened ended : View D O) (end_is : end ≡ ended.disk) (origin_is : opened.origin ≡ origin) (limit : opened.items.limit ≡ most_items) (limits : opened.limits.items ≡ most_items) (is : IsOpened tells clock far (says origin) start at opened)
+    (opened ended : View D O) (end_is : end ≡ ended.disk) (origin_is : opened.origin ≡ origin) (limit : opened.items.limit ≡ most_items) (limits : opened.limits ≡ program_limits) (is : IsOpened tells clock far (says origin) start at opened)
     (beside : tells → Besides (IsSettledName clock start) (clock start) (clock opened.disk)) (on : tells → RunsOn (says origin) (clock start) (clock opened.disk) is.found opened.list) (later : NoneFell (counts start) (counts opened.disk))
     (is_desk : IsDesk tells clock opened) (rising : told → AreRows past.rows) where
   pub opened_runs : WorkedOrNot tells told clock counts far says net job at opened ended was closed before after past past' said
@@ -87,7 +88,7 @@ module _ {D O : Type 0} (tells told : Type 0) (clock : D → Clock) (counts : D 
       ended = opened;
       end_is = end_is ∙ ap (λ (v : View D O). v.disk) same;
       origin_is = origin_is;
-      limits = limits;
+      limits = ap (λ (l : Limits). l.items) limits;
       is = is;
       beside = beside;
       on = on;

@@ -1,5 +1,4 @@
-use Rattle.std.proofs.Common.{inl, inr, Err, refl, sym, ◌∙◌, ap}
-use Rattle.dm_types.specs.declared.item.Limits.{Limits}
+use Rattle.std.proofs.Common.{inl, inr, Err, refl, sym, ◌∙◌}
 use Rattle.dm_store.specs.Origin.{said_of}
 use Rattle.dm_list.proofs.Ended.{job_at, job_refused}
 use Rattle.dm_list.proofs.Quiet.{no_life, none_runs}
@@ -25,7 +24,7 @@ returns-in-Ok g c =
       end_is = c.into_disk.ensures;
       origin_is = c.in-Ok.ensures.answers.0.origin_is;
       limit = c.in-Ok.ensures.answers.0.limit;
-      limits = ap (λ (l : Limits). l.items) c.in-Ok.ensures.answers.0.limits_are;
+      limits = c.in-Ok.ensures.answers.0.limits_are;
       is = c.in-Ok.ensures.answers.1;
       beside = c.in-Ok.ensures.beside;
       on = λ told. c.in-Ok.ensures.on told c.in-Ok.ensures.answers.1.found (c.in-Ok.ensures.answers.1.tried.reads told);

@@ -1,5 +1,4 @@
-use Rattle.std.proofs.Common.{inl, Err, refl, sym, ◌∙◌, ap}
-use Rattle.dm_types.specs.declared.item.Limits.{Limits}
+use Rattle.std.proofs.Common.{inl, Err, refl, sym, ◌∙◌}
 use Rattle.dm_store.specs.Origin.{said_of}
 use Rattle.dm_list.proofs.Ended.{job_refused}
 use Rattle.dm_list.proofs.Quiet.{no_life, none_runs}
@@ -25,7 +24,7 @@ returns-in-Ok g c =
     (N.closed c.work_or_answer-ending.new.net) (N.faults c.args.net.now) (N.faults c.work_or_answer-ending.new.net) (past_of K.rows K.faults c.args.keeper.now) (past_of K.rows K.faults c.work_or_answer-ending.new.keeper) c.work_or_answer-ending.result c.origin.ensures
     (opened_runs g.D.Disk.tells K.tells g.D.Disk.history g.D.Disk.faults g.D.Disk.far (λ o. said_of (g.N.O.Origin.says o)) N.tells c.origin.result c.args.job c.args.at c.args.disk c.into_disk.result (N.closed c.args.net.now)
     (N.closed c.work_or_answer-ending.new.net) (N.faults c.args.net.now) (N.faults c.work_or_answer-ending.new.net) (past_of K.rows K.faults c.args.keeper.now) (past_of K.rows K.faults c.work_or_answer-ending.new.keeper) c.work_or_answer-ending.result
-    c.in-Ok.desk c.work_or_answer-ending.new.desk c.into_disk.ensures c.in-Ok.ensures.answers.0.origin_is c.in-Ok.ensures.answers.0.limit (ap (λ (l : Limits). l.items) c.in-Ok.ensures.answers.0.limits_are) c.in-Ok.ensures.answers.1
+    c.in-Ok.desk c.work_or_answer-ending.new.desk c.into_disk.ensures c.in-Ok.ensures.answers.0.origin_is c.in-Ok.ensures.answers.0.limit c.in-Ok.ensures.answers.0.limits_are c.in-Ok.ensures.answers.1
     c.in-Ok.ensures.beside (λ told. c.in-Ok.ensures.on told c.in-Ok.ensures.answers.1.found (c.in-Ok.ensures.answers.1.tried.reads told)) c.in-Ok.ensures.cause.later c.in-Ok.ensures.kept c.rows_rise.ensures.rising c.work_or_answer-ending.ensures)
 
 pub returns-in-Err : goal.returns-in-Err
