@@ -51,6 +51,12 @@ fn ones(alloc: Global, count: usize) -> Result<NumberList, NoMemory>
     Ok(cuts)
 }
 
+/// What comes of a stream.
+fn front(stream: &[u8], cut: Option<usize>) -> &[u8] {
+    let end = cut.unwrap_or(stream.len()).min(stream.len());
+    &stream[..end]
+}
+
 fn script(alloc: Global, stream: &[u8], outside: Outside) -> Result<WireScript, NoMemory>
     ensures { IfOk result IsGood }
 {
@@ -67,7 +73,7 @@ fn scripts(alloc: Global, streams: &[&[u8]], outside: Outside) -> Result<WireScr
 {
     let mut wires = Listed::new(alloc);
     for stream in streams {
-        wires.push(script(alloc, stream, outside)?)?;
+        wires.push(script(alloc, front(stream, outside.cut), outside)?)?;
     }
     Ok(wires)
 }

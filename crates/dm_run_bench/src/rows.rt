@@ -13,6 +13,8 @@ pub struct Outside {
     pub errs: Option<u64>,
     /// Each receive gives one byte.
     pub by_byte: bool,
+    /// Each connection ends behind so many bytes.
+    pub cut: Option<usize>,
     /// So many bytes may be written to standard output.
     pub room: u64,
 }
@@ -24,6 +26,7 @@ impl Outside {
         out: None,
         errs: None,
         by_byte: false,
+        cut: None,
         room: 1000,
     };
 }

@@ -2,13 +2,13 @@
 #![tactic(auto)]
 
 #[cfg(test)]
-mod bench;
-#[cfg(test)]
 mod list;
 #[cfg(test)]
 mod replies;
 #[cfg(test)]
 mod rows;
+#[cfg(test)]
+mod runs;
 #[cfg(test)]
 mod socket;
 #[cfg(test)]

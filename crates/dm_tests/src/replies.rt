@@ -1,9 +1,8 @@
 // Every reply, every cause: the line that each ends with.
-use crate::bench::{Outcome, Outside, disk, holds, is_printed, length_of, run};
+use crate::runs::WordRuns;
 use dm_edge::{NetFault, WireFault};
-use dm_types::NoMemory;
+use dm_run_bench::{Asked, Left, Outside, Played, Row, Step, Told, play};
 use std::alloc::Global;
-use std::test::Fail;
 
 const WORDS: &[&[u8]] = &[
     b"get",
@@ -38,233 +37,301 @@ const SERVER_FAILED: &[u8] = b"interrupted 30 SERVER_FAILED\n";
 
 const BAD_CONTENT: &[u8] = b"interrupted 33 SERVER_BAD_CONTENT\n";
 
-/// Whether these streams bring `hello world`.
-fn is_brought(alloc: Global, streams: &[&[u8]], outside: Outside) -> Result<bool, NoMemory> {
-    let mut ran = run(alloc, WORDS, streams, disk(alloc)?, outside)?;
-    let is_told = is_printed(&ran, 0, LINE, b"");
-    Ok(is_told && holds(alloc, &mut ran.disk, b"hello.txt", b"hello world")?)
+/// Brings `hello world`.
+const BRINGS: Row = Row {
+    words: WORDS,
+    asked: Asked::Anyhow,
+    out: LINE,
+    files: &[(b"hello.txt", b"hello world")],
+    ..Row::NOTHING
+};
+
+/// Is interrupted in some way.
+const BREAKS: Row = Row {
+    words: WORDS,
+    asked: Asked::Anyhow,
+    told: Told::More,
+    status: 1,
+    out: b"1 interrupted:",
+    ..Row::NOTHING
+};
+
+const BY_BYTE: Outside = Outside {
+    by_byte: true,
+    ..Outside::SOUND
+};
+
+/// No file has the name.
+const NO_NAME: Step = Step::Left(Left::Stands(b"hello.txt", false));
+
+/// Whether a run comes to its row, and leaves the name absent.
+fn is_interrupted(alloc: Global, row: &Row<'static>) -> bool {
+    let steps = [Step::Runs(*row), NO_NAME];
+    play(alloc, &WordRuns, None, &steps) == Played::AsSaid
 }
 
-/// Whether connections that all say this end so, and leave the name absent.
-fn is_interrupted(alloc: Global, stream: &[u8], errs: &[u8]) -> Result<bool, NoMemory> {
-    let mut ran = run(alloc, WORDS, &[stream; 6], disk(alloc)?, Outside::SOUND)?;
-    let told = ran.status == 1 && ran.out.bytes().starts_with(b"1 interrupted:");
-    let absent = length_of(alloc, &mut ran.disk, b"hello.txt")?.is_none();
-    Ok(told && absent && ran.errs.bytes() == errs)
-}
+const CUT_HELLO: Row = Row {
+    streams: &[HELLO; 6],
+    ..BREAKS
+};
 
-/// Whether the connection at this place was asked for this at this host.
-fn asked(ran: &Outcome, place: usize, front: &[u8]) -> bool {
-    match ran.requests.get(place) {
-        Some(sent) => sent.bytes().starts_with(front),
-        None => false,
-    }
-}
+const CUT_CHUNKED: Row = Row {
+    streams: &[CHUNKED; 6],
+    ..BREAKS
+};
 
-#[test]
-fn chunks_come_byte_by_byte(rt: HostRuntime) -> Result<(), Fail> {
-    let alloc = rt.alloc();
+/// The row where each connection ends behind so many bytes, of which so many are its head's.
+fn cut_at(row: Row<'static>, end: usize, head: usize) -> Row<'static> {
     let outside = Outside {
-        by_byte: true,
+        cut: Some(end),
         ..Outside::SOUND
     };
-    assert!(rt; is_brought(alloc, &[CHUNKED], outside)?);
-    assert!(rt; is_brought(alloc, &[CHUNKED], Outside::SOUND)?);
-    Ok(())
+    let errs = if end < head {
+        CUT_IN_HEAD
+    } else {
+        CUT_IN_CONTENT
+    };
+    Row {
+        outside,
+        errs,
+        ..row
+    }
 }
 
-/// The first front of the stream that doesn't end as one that is cut off.
-fn ends_anywhere(alloc: Global, stream: &[u8], head: usize) -> Result<Option<usize>, NoMemory> {
-    for end in 0..stream.len() {
-        let errs = if end < head {
-            CUT_IN_HEAD
-        } else {
-            CUT_IN_CONTENT
-        };
-        if !is_interrupted(alloc, &stream[..end], errs)? {
-            return Ok(Some(end));
+/// The first of so many places where the streams don't end as ones that are cut off.
+fn ends_anywhere(alloc: Global, row: Row<'static>, length: usize, head: usize) -> Option<usize> {
+    for end in 0..length {
+        if !is_interrupted(alloc, &cut_at(row, end, head)) {
+            return Some(end);
         }
     }
-    Ok(None)
+    None
 }
 
 #[test]
-fn a_stream_cut_anywhere_leaves_no_name(rt: HostRuntime) -> Result<(), Fail> {
-    let alloc = rt.alloc();
-    assert_eq!(rt; ends_anywhere(alloc, HELLO, HELLO_HEAD)?, None);
-    assert_eq!(rt; ends_anywhere(alloc, CHUNKED, CHUNKED_HEAD)?, None);
-    Ok(())
+fn a_stream_cut_anywhere_leaves_no_name(rt: HostRuntime) {
+    let hello = ends_anywhere(rt.alloc(), CUT_HELLO, HELLO.len(), HELLO_HEAD);
+    assert_eq!(rt; hello, None);
+    let chunked = ends_anywhere(rt.alloc(), CUT_CHUNKED, CHUNKED.len(), CHUNKED_HEAD);
+    assert_eq!(rt; chunked, None);
 }
 
-#[test]
-fn a_content_goes_on_to_the_end(rt: HostRuntime) -> Result<(), Fail> {
-    let alloc = rt.alloc();
-    let stream = b"HTTP/1.1 200 OK\r\n\r\nhello";
-    let mut ran = run(alloc, WORDS, &[stream], disk(alloc)?, Outside::SOUND)?;
-    assert!(rt; is_printed(&ran, 0, b"1 complete 5 5 hello.txt\n", b""));
-    assert!(rt; holds(alloc, &mut ran.disk, b"hello.txt", b"hello")?);
-    Ok(())
-}
+const TOO_LARGE: &[u8] = b"HTTP/1.1 200 OK\r\nContent-Length: 1099511627777\r\n\r\nhello";
+
+const PACKED: &[u8] =
+    b"HTTP/1.1 200 OK\r\nContent-Encoding: gzip\r\nContent-Length: 5\r\n\r\nhello";
+
+const TO_TLS: &[u8] = b"HTTP/1.1 301 Moved\r\nLocation: https://x/\r\n\r\n";
+
+const NOWHERE: &[u8] = b"HTTP/1.1 301 Moved\r\n\r\n";
+
+const UNAVAILABLE: &[u8] = b"HTTP/1.1 503 Unavailable\r\n\r\n";
+
+const UNAUTHORIZED: &[u8] = b"HTTP/1.1 401 Unauthorized\r\n\r\n";
+
+const NOT_FOUND: &[u8] = b"HTTP/1.1 404 Not Found\r\n\r\n";
+
+const NO_HEAD: &[u8] = b"no head\r\n\r\n";
+
+const NOTHING_SAID: &[u8] = b"";
+
+/// A reply that all connections give, and what is then told.
+const REASONS: &[Row] = &[
+    Row {
+        streams: &[TOO_LARGE; 6],
+        errs: b"interrupted 6 FILE_TOO_LARGE\n",
+        ..BREAKS
+    },
+    Row {
+        streams: &[PACKED; 6],
+        errs: BAD_CONTENT,
+        ..BREAKS
+    },
+    Row {
+        streams: &[TO_TLS; 6],
+        errs: BAD_REQUEST,
+        ..BREAKS
+    },
+    Row {
+        streams: &[NOWHERE; 6],
+        errs: BAD_CONTENT,
+        ..BREAKS
+    },
+    Row {
+        streams: &[UNAVAILABLE; 6],
+        errs: SERVER_FAILED,
+        ..BREAKS
+    },
+    Row {
+        streams: &[UNAUTHORIZED; 6],
+        errs: b"interrupted 34 SERVER_UNAUTHORIZED\n",
+        ..BREAKS
+    },
+    Row {
+        streams: &[NOT_FOUND; 6],
+        errs: BAD_CONTENT,
+        ..BREAKS
+    },
+    Row {
+        streams: &[NO_HEAD; 6],
+        errs: BAD_CONTENT,
+        ..BREAKS
+    },
+    Row {
+        streams: &[NOTHING_SAID; 6],
+        errs: CUT_IN_HEAD,
+        ..BREAKS
+    },
+];
 
 #[test]
-fn each_reply_has_its_reason(rt: HostRuntime) -> Result<(), Fail> {
-    let alloc = rt.alloc();
-    let cases: &[(&[u8], &[u8])] = &[
-        (
-            b"HTTP/1.1 200 OK\r\nContent-Length: 1099511627777\r\n\r\nhello",
-            b"interrupted 6 FILE_TOO_LARGE\n",
-        ),
-        (
-            b"HTTP/1.1 200 OK\r\nContent-Encoding: gzip\r\nContent-Length: 5\r\n\r\nhello",
-            BAD_CONTENT,
-        ),
-        (
-            b"HTTP/1.1 301 Moved\r\nLocation: https://x/\r\n\r\n",
-            BAD_REQUEST,
-        ),
-        (b"HTTP/1.1 301 Moved\r\n\r\n", BAD_CONTENT),
-        (b"HTTP/1.1 503 Unavailable\r\n\r\n", SERVER_FAILED),
-        (
-            b"HTTP/1.1 401 Unauthorized\r\n\r\n",
-            b"interrupted 34 SERVER_UNAUTHORIZED\n",
-        ),
-        (b"HTTP/1.1 404 Not Found\r\n\r\n", BAD_CONTENT),
-        (b"no head\r\n\r\n", BAD_CONTENT),
-        (b"", CUT_IN_HEAD),
-    ];
-    for (stream, errs) in cases {
-        assert!(rt; is_interrupted(alloc, stream, errs)?);
+fn each_reply_has_its_reason(rt: HostRuntime) {
+    for (place, row) in REASONS.iter().enumerate() {
+        assert!(rt; is_interrupted(rt.alloc(), row), "in {place}");
     }
-    Ok(())
 }
 
-/// What a failing call of the net ends with, where the next connection is sound.
-const FAULTS: &[(Outside, u8, &[u8], &[u8])] = &[
-    (
-        Outside {
+const TWELVE: [&[u8]; 12] = [BESIDE; 12];
+
+/// Ten redirects, and what they lead to.
+const ELEVENTH: [&[u8]; 12] = [
+    BESIDE, BESIDE, BESIDE, BESIDE, BESIDE, BESIDE, BESIDE, BESIDE, BESIDE, BESIDE, HELLO, BESIDE,
+];
+
+/// What single runs come to.
+const ONCE: &[Row] = &[
+    // chunks, byte by byte and at once
+    Row {
+        streams: &[CHUNKED],
+        outside: BY_BYTE,
+        ..BRINGS
+    },
+    Row {
+        streams: &[CHUNKED],
+        ..BRINGS
+    },
+    // a content goes on to the end of the connection
+    Row {
+        streams: &[b"HTTP/1.1 200 OK\r\n\r\nhello"],
+        out: b"1 complete 5 5 hello.txt\n",
+        files: &[(b"hello.txt", b"hello")],
+        ..BRINGS
+    },
+    // redirects are followed
+    Row {
+        streams: &[ELSEWHERE, BESIDE, CHUNKED],
+        ..BRINGS
+    },
+    Row {
+        streams: &[ELSEWHERE, BESIDE, HELLO],
+        asked: Asked::Fronts,
+        sent: &[
+            b"GET /a/hello.txt HTTP/1.1\r\nHost: files.example\r\n",
+            b"GET /b/c?d HTTP/1.1\r\nHost: other.example:81\r\n",
+            b"GET /next HTTP/1.1\r\nHost: other.example:81\r\n",
+        ],
+        ..BRINGS
+    },
+    // ten of them are, and no more
+    Row {
+        streams: &TWELVE,
+        asked: Asked::Times(11),
+        told: Told::Exactly,
+        out: b"1 interrupted:24 0 ? -\n",
+        errs: BAD_REQUEST,
+        ..BREAKS
+    },
+    Row {
+        streams: &ELEVENTH,
+        ..BRINGS
+    },
+    // a failing call of the net, where the next connection is sound
+    Row {
+        outside: Outside {
             connect: Some(NetFault::Failed),
             ..Outside::SOUND
         },
-        1,
-        b"1 interrupted:20 0 ? -\n",
-        CUT_IN_HEAD,
-    ),
-    (
-        Outside {
+        ..FAILED
+    },
+    Row {
+        streams: &[HELLO],
+        outside: Outside {
             connect: Some(NetFault::NoRoute),
             ..Outside::SOUND
         },
-        1,
-        b"1 interrupted:22 0 ? -\n",
-        b"interrupted 22 NETWORK_DISCONNECTED\n",
-    ),
-    (
-        Outside {
+        told: Told::Exactly,
+        out: b"1 interrupted:22 0 ? -\n",
+        errs: b"interrupted 22 NETWORK_DISCONNECTED\n",
+        ..BREAKS
+    },
+    Row {
+        streams: &[HELLO],
+        outside: Outside {
             connect: Some(NetFault::Timeout),
             ..Outside::SOUND
         },
-        0,
-        LINE,
-        b"",
-    ),
+        ..BRINGS
+    },
     // the send and the receive
-    (
-        Outside {
+    Row {
+        outside: Outside {
             wire: Some((0, WireFault::Failed)),
             ..Outside::SOUND
         },
-        1,
-        b"1 interrupted:20 0 ? -\n",
-        CUT_IN_HEAD,
-    ),
-    (
-        Outside {
+        ..FAILED
+    },
+    Row {
+        outside: Outside {
             wire: Some((1, WireFault::Failed)),
             ..Outside::SOUND
         },
-        1,
-        b"1 interrupted:20 0 ? -\n",
-        CUT_IN_HEAD,
-    ),
-];
-
-/// What is said where a write fails.
-const CUT_OFF: &[(&[u8], Outside, u8, &[u8])] = &[
-    (
-        HELLO,
-        Outside {
+        ..FAILED
+    },
+    // a write fails
+    Row {
+        streams: &[HELLO],
+        outside: Outside {
             out: Some(0),
             ..Outside::SOUND
         },
-        7,
-        b"",
-    ),
-    (
-        b"HTTP/1.1 404 Not Found\r\n\r\n",
-        Outside {
+        status: 7,
+        out: b"",
+        files: &[],
+        ..BRINGS
+    },
+    Row {
+        streams: &[b"HTTP/1.1 404 Not Found\r\n\r\n"],
+        outside: Outside {
             errs: Some(0),
             ..Outside::SOUND
         },
-        7,
-        b"1 interrupted:33 0 ? -\n",
-    ),
-    (
-        HELLO,
-        Outside {
+        told: Told::Exactly,
+        status: 7,
+        out: b"1 interrupted:33 0 ? -\n",
+        ..BREAKS
+    },
+    Row {
+        streams: &[HELLO],
+        outside: Outside {
             errs: Some(0),
             ..Outside::SOUND
         },
-        0,
-        LINE,
-    ),
+        ..BRINGS
+    },
 ];
 
-#[test]
-fn each_fault_has_its_reason(rt: HostRuntime) -> Result<(), Fail> {
-    let alloc = rt.alloc();
-    for (outside, status, out, errs) in FAULTS {
-        let ran = run(alloc, WORDS, &[HELLO], disk(alloc)?, *outside)?;
-        assert!(rt; is_printed(&ran, *status, out, errs));
-    }
-    for (stream, outside, status, out) in CUT_OFF {
-        let ran = run(alloc, WORDS, &[*stream], disk(alloc)?, *outside)?;
-        assert!(rt; is_printed(&ran, *status, out, b""));
-    }
-    Ok(())
-}
+const FAILED: Row = Row {
+    streams: &[HELLO],
+    told: Told::Exactly,
+    out: b"1 interrupted:20 0 ? -\n",
+    errs: CUT_IN_HEAD,
+    ..BREAKS
+};
 
 #[test]
-fn redirects_are_followed(rt: HostRuntime) -> Result<(), Fail> {
-    let alloc = rt.alloc();
-    assert!(rt; is_brought(alloc, &[ELSEWHERE, BESIDE, CHUNKED], Outside::SOUND)?);
-    let streams = &[ELSEWHERE, BESIDE, HELLO];
-    let ran = run(alloc, WORDS, streams, disk(alloc)?, Outside::SOUND)?;
-    assert!(rt;
-        asked(
-            &ran,
-            0,
-            b"GET /a/hello.txt HTTP/1.1\r\nHost: files.example\r\n"
-        )
-    );
-    assert!(rt;
-        asked(
-            &ran,
-            1,
-            b"GET /b/c?d HTTP/1.1\r\nHost: other.example:81\r\n"
-        )
-    );
-    assert!(rt; asked(&ran, 2, b"GET /next HTTP/1.1\r\nHost: other.example:81\r\n"));
-    Ok(())
-}
-
-#[test]
-fn ten_redirects_are_followed_and_no_more(rt: HostRuntime) -> Result<(), Fail> {
-    let alloc = rt.alloc();
-    let mut streams = [BESIDE; 12];
-    let ran = run(alloc, WORDS, &streams, disk(alloc)?, Outside::SOUND)?;
-    assert!(rt; is_printed(&ran, 1, b"1 interrupted:24 0 ? -\n", BAD_REQUEST));
-    assert!(rt; ran.requests.len() == 11);
-    streams[10] = HELLO;
-    assert!(rt; is_brought(alloc, &streams, Outside::SOUND)?);
-    Ok(())
+fn a_reply_or_a_fault_comes_to_its_line(rt: HostRuntime) {
+    for (place, row) in ONCE.iter().enumerate() {
+        let played = play(rt.alloc(), &WordRuns, None, &[Step::Runs(*row)]);
+        assert_eq!(rt; played, Played::AsSaid, "in {place}");
+    }
 }

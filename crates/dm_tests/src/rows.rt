@@ -1,9 +1,8 @@
 // Worked rows: what a get and what follows it come to.
-use crate::bench::{Outside, Row, disk, first_other, touch};
+use crate::runs::WordRuns;
 use dm_edge::{NetFault, WireFault};
-use dm_types::NoMemory;
+use dm_run_bench::{Outside, Played, Row, Step, play, said};
 use std::alloc::Global;
-use std::test::Fail;
 
 /// `hello world` at once, with no tag.
 const WHOLE: &[u8] = b"HTTP/1.1 200 OK\r\nContent-Length: 11\r\n\r\nhello world";
@@ -356,64 +355,58 @@ const WORDS: &[&[Row]] = &[
         ..Row::NOTHING
     }],
 ];
+
 /// The number of the first case that comes to something else.
-fn first_case(alloc: Global, cases: &[&[Row]]) -> Result<Option<usize>, NoMemory> {
+fn first_case(alloc: Global, cases: &[&[Row]]) -> Option<usize> {
     for (number, rows) in cases.iter().enumerate() {
-        let (other, _) = first_other(alloc, disk(alloc)?, rows)?;
-        if other.is_some() {
-            return Ok(Some(number));
+        if said(alloc, &WordRuns, rows) != rows.len() {
+            return Some(number);
         }
     }
-    Ok(None)
+    None
 }
 
 #[test]
-fn a_content_is_gone_on_with(rt: HostRuntime) -> Result<(), Fail> {
-    assert_eq!(rt; first_case(rt.alloc(), CONTINUED)?, None);
-    Ok(())
+fn a_content_is_gone_on_with(rt: HostRuntime) {
+    assert_eq!(rt; first_case(rt.alloc(), CONTINUED), None);
 }
 
 #[test]
-fn a_reply_comes_to_what_it_says(rt: HostRuntime) -> Result<(), Fail> {
-    assert_eq!(rt; first_case(rt.alloc(), ONCE)?, None);
-    Ok(())
+fn a_reply_comes_to_what_it_says(rt: HostRuntime) {
+    assert_eq!(rt; first_case(rt.alloc(), ONCE), None);
 }
 
 #[test]
-fn a_user_asks_again(rt: HostRuntime) -> Result<(), Fail> {
-    assert_eq!(rt; first_case(rt.alloc(), WORDS)?, None);
-    Ok(())
+fn a_user_asks_again(rt: HostRuntime) {
+    assert_eq!(rt; first_case(rt.alloc(), WORDS), None);
 }
 
+const FIRST_FORM: Row = Row {
+    words: &[b"get", b"--name", b"report.pdf", b"http://h/a"],
+    streams: &[WHOLE],
+    sent: &[PLAIN],
+    out: b"1 complete 11 11 report (1).pdf\n",
+    files: &[(b"Report.PDF", b""), (b"report (1).pdf", b"hello world")],
+    ..Row::NOTHING
+};
+
+const NO_FORM: Row = Row {
+    words: &[b"get", b"--name", b"report.pdf", b"http://h/a"],
+    streams: &[WHOLE],
+    sent: &[PLAIN],
+    status: 1,
+    out: b"2 interrupted:1 0 ? -\n",
+    errs: b"interrupted 1 FILE_FAILED\n",
+    ..Row::NOTHING
+};
+
 #[test]
-fn a_name_that_is_taken_gets_a_number(rt: HostRuntime) -> Result<(), Fail> {
-    let alloc = rt.alloc();
-    let mut there = disk(alloc)?;
-    assert!(rt; touch(alloc, &mut there, b"Report.PDF")?);
-    let first = Row {
-        words: &[b"get", b"--name", b"report.pdf", b"http://h/a"],
-        streams: &[WHOLE],
-        sent: &[PLAIN],
-        out: b"1 complete 11 11 report (1).pdf\n",
-        files: &[(b"Report.PDF", b""), (b"report (1).pdf", b"hello world")],
-        ..Row::NOTHING
-    };
-    let (other, mut there) = first_other(alloc, there, &[first])?;
-    assert_eq!(rt; other, None);
-    for number in 2..101 {
-        let name = format!(in alloc; "report ({number}).pdf")?;
-        assert!(rt; touch(alloc, &mut there, name.as_bytes())?);
-    }
-    let last = Row {
-        words: &[b"get", b"--name", b"report.pdf", b"http://h/a"],
-        streams: &[WHOLE],
-        sent: &[PLAIN],
-        status: 1,
-        out: b"2 interrupted:1 0 ? -\n",
-        errs: b"interrupted 1 FILE_FAILED\n",
-        ..Row::NOTHING
-    };
-    let (other, _) = first_other(alloc, there, &[last])?;
-    assert_eq!(rt; other, None);
-    Ok(())
+fn a_name_that_is_taken_gets_a_number(rt: HostRuntime) {
+    let steps = [
+        Step::File(b"Report.PDF", b""),
+        Step::Runs(FIRST_FORM),
+        Step::Forms(1),
+        Step::Runs(NO_FORM),
+    ];
+    assert_eq!(rt; play(rt.alloc(), &WordRuns, None, &steps), Played::AsSaid);
 }

@@ -1,7 +1,9 @@
 // The first file over a real socket.
-use crate::bench::{disk, holds, output, start, texts};
-use dm_edge::Net;
+use dm_cli::{Ran, run_words};
+use dm_disk::{FailList, MemoryDisk};
+use dm_edge::{ClockList, Net, SinkMem};
 use dm_edge_real::TcpNet;
+use dm_run_bench::{Left, stands, texts};
 use dm_types::NoMemory;
 use std::alloc::Global;
 use std::io::{Read, Write};
@@ -21,12 +23,16 @@ fn serve(listener: &TcpListener) -> io::Result<()> {
 /// Whether a file is brought from this address, and told.
 fn arrives<N: Net>(alloc: Global, address: &[u8], net: &mut N) -> Result<bool, NoMemory> {
     let words = texts(alloc, &[b"get", b"--name", b"hello.txt", address])?;
-    let there = disk(alloc)?;
-    let mut out = output(alloc, None)?;
-    let mut errs = output(alloc, None)?;
-    let mut ran = start(alloc, &words, there, net, &mut out, &mut errs)?;
-    let is_told = ran.status == 0 && out.written() == b"1 complete 11 11 hello.txt\n".as_slice();
-    Ok(is_told && holds(alloc, &mut ran.disk, b"hello.txt", b"hello world")?)
+    let mut clock = ClockList::new(alloc, &[0])?;
+    let mut out = SinkMem::new(alloc, 1000, &[])?;
+    let mut errs = SinkMem::new(alloc, 1000, &[])?;
+    let there = MemoryDisk::new(alloc, FailList::new(alloc), None)?;
+    let Ran { status, mut disk } = run_words(
+        alloc, &words, there, net, &mut clock, &mut out, &mut errs,
+    );
+    let is_told = status == 0 && out.written() == b"1 complete 11 11 hello.txt\n".as_slice();
+    let is_held = stands(alloc, &mut disk, Left::File(b"hello.txt", b"hello world"));
+    Ok(is_told && is_held)
 }
 
 #[test]

@@ -1,8 +1,0 @@
-use Rattle.dm_disk_model.proofs.Standing.{stands_not_told}
-use Rattle.dm_disk.specs.Memory.{history_in}
-use Rattle.dm_tests.proofs.bench.make.Goals as goal
-
-pub create-requires : goal.create-requires
-create-requires c =
-    let told = c.in_ok-length.ensures in
-    stands_not_told (history_in c.args.disk.now) (history_in c.length.new.self) c.args.place.now c.in_ok-length.field-0 told.stays told.length c.in-None.is

@@ -1,5 +1,0 @@
-use Rattle.std.specs.Prelude.{All, ◌<◌}
-use Rattle.dm_tests.proofs.bench.ones.Given as goal
-
-abbrev pub invariant-loop : goal.invariant-loop
-invariant-loop l = All (λ cut. 0 < cut) l.cuts

@@ -1,6 +1,0 @@
-use Rattle.std.specs.Prelude.{All}
-use Rattle.dm_edge.specs.Script.{IsGood}
-use Rattle.dm_tests.proofs.bench.scripts.Given as goal
-
-abbrev pub invariant-loop-stream : goal.invariant-loop-stream
-invariant-loop-stream l = All IsGood l.wires
