@@ -1,5 +1,8 @@
 use dm_call::{Refusal, Target};
-use dm_response::{Trouble, fixed_memory_reply, item_text, items_text, trouble_reply};
+use dm_hist::Row;
+use dm_response::{
+    Trouble, fixed_memory_reply, item_text, items_text, row_text, rows_text, trouble_reply,
+};
 use dm_types::{Attempt, Epoch, Item, ItemId, Phase, Reason, Slices, Text};
 use std::alloc::Global;
 use std::test::Fail;
@@ -65,6 +68,46 @@ fn a_list_has_commas_between(rt: HostRuntime) -> Result<(), Fail> {
     let items = [waiting(rt.alloc())?, waiting(rt.alloc())?];
     let text = items_text(rt.alloc(), &items)?;
     assert_eq!(rt; text.len(), 10 + 136 + 1 + 136 + 2);
+    Ok(())
+}
+
+fn row(alloc: Global) -> Result<Row, Fail> {
+    Ok(Row {
+        id: ItemId(3),
+        word: Text::new(alloc),
+        address: Text::from_bytes(alloc, b"http://h/a")?,
+        name: Text::from_bytes(alloc, b"a.txt")?,
+        complete: true,
+        total: Some(11),
+        digest: Some([0xcd; 32]),
+        at_ms: u64::MAX,
+    })
+}
+
+#[test]
+fn a_row_is_json(rt: HostRuntime) -> Result<(), Fail> {
+    let mut row = row(rt.alloc())?;
+    let text = row_text(rt.alloc(), &row)?;
+    assert_eq!(rt;
+        text.bytes(),
+        b"{\"address\":\"http://h/a\",\"at\":18446744073709551615,\"id\":3,\"name\":\"a.txt\",\"phase\":\"complete\",\"sha256\":\"cdcdcdcdcdcdcdcdcdcdcdcdcdcdcdcdcdcdcdcdcdcdcdcdcdcdcdcdcdcdcdcd\",\"total\":11,\"word\":\"\"}".as_slice()
+    );
+    row.complete = false;
+    row.name = Text::new(rt.alloc());
+    row.total = None;
+    row.digest = None;
+    let text = row_text(rt.alloc(), &row)?;
+    assert_eq!(rt;
+        text.bytes(),
+        b"{\"address\":\"http://h/a\",\"at\":18446744073709551615,\"id\":3,\"name\":null,\"phase\":\"cancelled\",\"sha256\":null,\"total\":null,\"word\":\"\"}".as_slice()
+    );
+    let rows = [row];
+    let text = rows_text(rt.alloc(), &rows)?;
+    assert!(rt; text.bytes().starts_with(b"{\"rows\":[{\"address\":"));
+    assert_eq!(rt;
+        rows_text(rt.alloc(), &[])?.bytes(),
+        b"{\"rows\":[]}".as_slice()
+    );
     Ok(())
 }
 

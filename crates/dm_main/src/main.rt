@@ -102,16 +102,18 @@ fn run(
     }
 }
 
-/// Serves the list of this disk over these connections.
-fn serve_over<D: Disk + Drop, X: Conns + Drop>(
+/// Serves the list of this disk and this history over these connections.
+fn serve_over<D: Disk + Drop, K: Keeper + Drop, X: Conns + Drop>(
     rt: HostRuntime,
     words: &[Text],
     disk: D,
+    keeper: K,
     conns: X,
     out: &mut StreamSink<Output>,
     errs: &mut StreamSink<Output>,
 ) -> u8 {
     let mut conns = conns;
+    let mut keeper = keeper;
     let mut clock = SystemClock::new(rt);
     let ran = run_serve(
         rt.alloc(),
@@ -119,6 +121,7 @@ fn serve_over<D: Disk + Drop, X: Conns + Drop>(
         disk,
         EveryByte,
         &mut conns,
+        &mut keeper,
         &mut clock,
         out,
         errs,
@@ -127,7 +130,41 @@ fn serve_over<D: Disk + Drop, X: Conns + Drop>(
     ran.status
 }
 
-/// Makes the disk, opens the port and serves.
+/// Opens the port and serves.
+fn listen<D: Disk + Drop, K: Keeper + Drop>(
+    rt: HostRuntime,
+    words: &[Text],
+    port: u16,
+    disk: D,
+    keeper: K,
+    out: &mut StreamSink<Output>,
+    errs: &mut StreamSink<Output>,
+) -> u8 {
+    let alloc = rt.alloc();
+    match TcpConns::open(&rt, port) {
+        Ok(conns) => serve_over(rt, words, disk, keeper, conns, out, errs),
+        Err(_) => tell(alloc, Verdict::NotAccepted, out, errs),
+    }
+}
+
+/// Opens the history, or makes it, opens the port and serves.
+fn serve_kept<D: Disk + Drop>(
+    rt: HostRuntime,
+    words: &[Text],
+    port: u16,
+    disk: D,
+    out: &mut StreamSink<Output>,
+    errs: &mut StreamSink<Output>,
+) -> u8 {
+    let alloc = rt.alloc();
+    match SqlKeeper::open(alloc, &rt, HISTORY) {
+        Ok(keeper) => listen(rt, words, port, disk, keeper, out, errs),
+        Err(KeeperFault::Failed) => tell(alloc, Verdict::HistoryFailed, out, errs),
+        Err(KeeperFault::NoMemory) => tell(alloc, Verdict::NoMemory, out, errs),
+    }
+}
+
+/// Makes the disk, opens the history and the port, and serves.
 fn serve(
     rt: HostRuntime,
     words: &[Text],
@@ -137,10 +174,7 @@ fn serve(
 ) -> u8 {
     let alloc = rt.alloc();
     match RealDisk::new(rt, alloc, STATE, FILES) {
-        Ok(disk) => match TcpConns::open(&rt, port) {
-            Ok(conns) => serve_over(rt, words, disk, conns, out, errs),
-            Err(_) => tell(alloc, Verdict::NotAccepted, out, errs),
-        },
+        Ok(disk) => serve_kept(rt, words, port, disk, out, errs),
         Err(NamesFault::Disk(kind)) => tell(alloc, Verdict::DiskFailed(kind), out, errs),
         Err(NamesFault::NoMemory) => tell(alloc, Verdict::NoMemory, out, errs),
     }

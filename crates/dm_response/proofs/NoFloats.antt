@@ -1,4 +1,4 @@
--- No item has a number with a fraction.
+-- No item and no row has a number with a fraction.
 use Rattle.std.proofs.Common.{◌≡◌, ℕ, Bool, false, true, ◌||◌, List, [], ◌∷◌, map, Option, Some, None, refl, sym, ap, ◌∙◌}
 use Rattle.std.proofs.lemmas.Bool.{false≢true}
 use Rattle.serde_json.specs.Data.{Data}
@@ -6,7 +6,8 @@ use Rattle.serde_json.specs.View.{items_of}
 use Rattle.serde_json.specs.Written.{has_float, items_have_float}
 use Rattle.dm_types.specs.declared.item.Item.{Item}
 use Rattle.dm_types.specs.declared.reason.Reason.{Reason}
-use Rattle.dm_response.specs.Json.{item_data, items_data, may_digest, may_number, may_reason, may_text}
+use Rattle.dm_hist.specs.declared.row.Row.{Row}
+use Rattle.dm_response.specs.Json.{item_data, items_data, may_digest, may_name, may_number, may_reason, may_text, row_data, rows_data}
 
 no_text : (text : Option (List ℕ)) → has_float (may_text text) ≡ false
 no_text None = refl
@@ -37,3 +38,17 @@ each (item ∷ items) = neither (has_float (item_data item)) (items_have_float (
 
 pub no_items : (items : List Item) → has_float (items_data items) ≡ false
 no_items items = neither (items_have_float (items_of (map item_data items))) false (each items) refl
+
+no_name : (name : List ℕ) → has_float (may_name name) ≡ false
+no_name [] = refl
+no_name (byte ∷ rest) = refl
+
+pub no_row : (row : Row) → has_float (row_data row) ≡ false
+no_row row = rw (no_name row.name, no_digest row.digest, no_number row.total) refl
+
+each_row : (rows : List Row) → items_have_float (items_of (map row_data rows)) ≡ false
+each_row [] = refl
+each_row (row ∷ rows) = neither (has_float (row_data row)) (items_have_float (items_of (map row_data rows))) (no_row row) (each_row rows)
+
+pub no_rows : (rows : List Row) → has_float (rows_data rows) ≡ false
+no_rows rows = neither (items_have_float (items_of (map row_data rows))) false (each_row rows) refl

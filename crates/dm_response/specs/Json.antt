@@ -1,5 +1,5 @@
--- Items as JSON. An object's keys stand in the order of their bytes, each once (`put`).
-use Rattle.std.specs.Prelude.{ℕ, ◌^◌, ◌-◌, min, List, map, codes, Option, Some, None}
+-- Items and rows of the history as JSON. An object's keys stand in the order of their bytes, each once (`put`).
+use Rattle.std.specs.Prelude.{ℕ, ◌^◌, ◌-◌, Bool, true, false, min, List, [], ◌∷◌, map, codes, Option, Some, None}
 use Rattle.std.specs.Str.Lossy.{utf8_lossy}
 use Rattle.hex.specs.Hex.{encode_lower}
 use Rattle.serde_json.specs.Data.{Data, null, number, string, array, object, unsigned, Members, no_members, put}
@@ -10,6 +10,7 @@ use Rattle.dm_types.specs.declared.item.Phase.{Phase}
 use Rattle.dm_types.specs.declared.item.Phase.TheVariants.{Waiting, Running, Paused, Finishing, Complete, Cancelled, Interrupted}
 use Rattle.dm_types.specs.declared.reason.Reason.{Reason}
 use Rattle.dm_slice.specs.Words.{covered}
+use Rattle.dm_hist.specs.declared.row.Row.{Row}
 
 -- the word of a state, without the number of a reason
 abbrev pub word_of : Phase → List ℕ
@@ -69,3 +70,33 @@ item_data item = object (with_state item (with_numbers item (with_texts item no_
 -- part of a list
 abbrev pub items_data : List Item → Data
 items_data items = object (put (codes "items") (array (items_of (map item_data items))) no_members)
+
+-- the word of a row's state: it is complete, or it was cancelled
+abbrev pub word_of_row : Bool → List ℕ
+word_of_row true = codes "complete"
+word_of_row false = codes "cancelled"
+
+-- the name of a row, which is null where it has none
+abbrev pub may_name : List ℕ → Data
+may_name [] = null
+may_name (byte ∷ rest) = text_data (byte ∷ rest)
+
+abbrev pub with_row_texts : Row → Members → Members
+with_row_texts row members =
+    put (codes "name") (may_name row.name) (put (codes "address") (text_data row.address) (put (codes "word") (text_data row.word) members))
+
+abbrev pub with_row_numbers : Row → Members → Members
+with_row_numbers row members =
+    put (codes "total") (may_number row.total) (put (codes "at") (number_data row.at_ms) (put (codes "id") (number_data row.id.0) members))
+
+abbrev pub with_row_state : Row → Members → Members
+with_row_state row members =
+    put (codes "sha256") (may_digest row.digest) (put (codes "phase") (string (word_of_row row.complete)) members)
+
+-- A row of the history: what is not there is null, and an empty word is empty.
+abbrev pub row_data : Row → Data
+row_data row = object (with_row_state row (with_row_numbers row (with_row_texts row no_members)))
+
+-- part of the history
+abbrev pub rows_data : List Row → Data
+rows_data rows = object (put (codes "rows") (array (items_of (map row_data rows))) no_members)

@@ -96,7 +96,7 @@ fn put_state(alloc: Global, members: &mut Map<String, Value>, item: &Item) -> Re
     Ok(())
 }
 
-fn text_value(alloc: Global, bytes: &[u8]) -> Result<Value, NoMemory>
+pub(crate) fn text_value(alloc: Global, bytes: &[u8]) -> Result<Value, NoMemory>
     ensures { IfOk result (λ value. view value ≡ text_data bytes.now) }
 {
     let text = String::from_utf8_lossy(alloc, bytes)?;
@@ -112,7 +112,7 @@ fn text_or_null(alloc: Global, text: &Option<Text>) -> Result<Value, NoMemory>
     }
 }
 
-fn number_or_null(number: Option<u64>) -> Value
+pub(crate) fn number_or_null(number: Option<u64>) -> Value
     ensures { view result ≡ may_number number }
 {
     match number {
@@ -130,7 +130,7 @@ fn reason_or_null(reason: Option<Reason>) -> Value
     }
 }
 
-fn digest_or_null(alloc: Global, digest: &Option<[u8; 32]>) -> Result<Value, NoMemory>
+pub(crate) fn digest_or_null(alloc: Global, digest: &Option<[u8; 32]>) -> Result<Value, NoMemory>
     ensures { IfOk result (λ value. view value ≡ may_digest digest.now) }
 {
     match digest {

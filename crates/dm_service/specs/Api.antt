@@ -1,8 +1,13 @@
--- What a request does to the list, and what is replied: a function of the request, of the list with the attempts that run, and of the moment.
-use Rattle.std.specs.Prelude.{ℕ, Bool, true, false, if◌then◌else◌, List, [], Option, Some, None, Result, Ok, Err}
+-- What a request does to the list and to the history, and what is replied: a function of the request, of the list with the attempts that run, of what
+-- the history tells, and of the moment.
+use Rattle.std.specs.Prelude.{ℕ, Bool, true, false, if◌then◌else◌, List, [], ◌∷◌, length, map, Option, Some, None, Result, Ok, Err}
 use Rattle.dm_types.specs.declared.entry.Entry.TheVariants as entries
 use Rattle.dm_types.specs.declared.item.Item.{Item}
 use Rattle.dm_types.specs.declared.item.ItemId.{ItemId}
+use Rattle.dm_hist.specs.declared.row.Row.{Row}
+use Rattle.dm_hist.specs.Shown.{row_of_item}
+use Rattle.dm_archive.specs.Doing.{Change, drops, puts, stay}
+use Rattle.dm_archive.specs.Moving.{archives, overs}
 use Rattle.dm_item.specs.Lawful.{History}
 use Rattle.dm_item.specs.Listing.{Listing, item_in}
 use Rattle.dm_item.specs.Row.{allows, is_paused}
@@ -11,10 +16,10 @@ use Rattle.dm_store.specs.Becomes.{run_of}
 use Rattle.dm_store.specs.Lives.{life_in}
 use Rattle.dm_store.specs.declared.life.Life.{Life}
 use Rattle.dm_answers.specs.Pause.{pausing}
+use Rattle.dm_answers.specs.declared.order.Order.{Order}
 use Rattle.dm_call.specs.Asked.{asked}
 use Rattle.dm_call.specs.declared.call.Call.{Call}
 use Rattle.dm_call.specs.declared.call.Refusal.{Refusal}
-use Rattle.dm_call.specs.declared.call.Refusal.TheVariants as refusals
 use Rattle.dm_call.specs.declared.request.ApiRequest.{ApiRequest}
 use Rattle.dm_does.specs.declared.course.Course.{Course}
 use Rattle.dm_does.specs.declared.course.Course.TheVariants.{Brings, Ends}
@@ -26,7 +31,8 @@ use Rattle.dm_does.specs.Doing.{Doing, Given, does, on_item, refuses}
 use Rattle.dm_response.specs.Reply.{trouble_of}
 use Rattle.dm_response.specs.declared.reply.ApiReply.{ApiReply}
 use Rattle.dm_response.specs.declared.trouble.Trouble.TheVariants as troubles
-use Rattle.dm_service.specs.Replies.{page_by, reply_by, report_by, stop_by}
+use Rattle.dm_service.specs.Recalls.{Recall, by_id, by_word, is_free, is_gone, page, recall_of}
+use Rattle.dm_service.specs.Replies.{archived_by, page_by, removed_reply, reply_by, report_by, row_by, rows_by, stop_by}
 use Rattle.dm_service.specs.Tasks.{task_by}
 use Rattle.dm_service.specs.declared.task.Task.{Task}
 use Rattle.dm_service.specs.declared.task.Task.TheVariants as tasks
@@ -40,9 +46,10 @@ pub record Seen : Type 0 where
 abbrev pub given_by : Seen → Given
 given_by seen = record { list = seen.list; at = seen.at }
 
--- the entries that are recorded, and the reply
+-- the entries that are recorded, what becomes of the rows of the history, and the reply
 pub record Api : Type 0 where
   pub entries : History
+  pub change : Change
   pub reply : ApiReply
   -- the list is to be changed, which it isn't where it is broken
   pub changes : Bool
@@ -83,25 +90,63 @@ removed_by _ = record { 0 = 0 }
 -- A job at the list. Items in the reply are shown as they stand behind its entries.
 abbrev pub api_of : Seen → Job → Doing → Api
 api_of seen job doing =
-    record { entries = doing.entries; reply = reply_by (removed_by job) (item_by (run_of doing.entries seen.list).items doing.course) doing.course; changes = is_change job }
+    record { entries = doing.entries; change = stay; reply = reply_by (removed_by job) (item_by (run_of doing.entries seen.list).items doing.course) doing.course; changes = is_change job }
 
 -- the list stays, and this is replied
 abbrev pub tells : ApiReply → Api
-tells reply = record { entries = []; reply = reply; changes = false }
+tells reply = record { entries = []; change = stay; reply = reply; changes = false }
 
--- the history has no routes yet
-abbrev pub api_task : Seen → Task → Api
-api_task seen (tasks.Job job) = api_of seen job (does_now job seen)
-api_task seen (tasks.Page window) = tells (page_by seen.list.items window)
-api_task seen tasks.Archive = tells (trouble_of (troubles.Refused refusals.Path))
-api_task seen (tasks.History window) = tells (trouble_of (troubles.Refused refusals.Path))
-api_task seen tasks.Report = tells (report_by seen.list.items)
-api_task seen tasks.Stop = tells stop_by
+-- some go
+abbrev pub is_any : List Item → Bool
+is_any [] = false
+is_any (item ∷ more) = true
 
-abbrev pub api_asked : Seen → Result Call Refusal → Api
-api_asked seen (Ok call) = api_task seen (task_by call)
-api_asked seen (Err refusal) = tells (trouble_of (troubles.Refused refusal))
+-- each complete or cancelled item goes to the history
+abbrev pub api_archive : Seen → Api
+api_archive seen = record {
+  entries = archives (overs seen.list.items);
+  change = puts (map row_of_item (overs seen.list.items));
+  reply = archived_by (length (overs seen.list.items));
+  changes = is_any (overs seen.list.items);
+}
 
--- what a request does
-abbrev pub api : Seen → ApiRequest → Api
-api seen request = api_asked seen (asked request)
+-- an item is added, where no row has its word
+abbrev pub api_add : Seen → Order → Recall → Bool → Api
+api_add seen order (by_word (Some row)) true = tells (row_by order.address.text row)
+api_add seen order recall free = api_of seen (jobs.Add order) (does_now (jobs.Add order) seen)
+
+-- a row is dropped
+abbrev pub api_drop : ItemId → Api
+api_drop id = record { entries = []; change = drops id.0; reply = removed_reply id; changes = false }
+
+-- an item is removed; where none has the id its row is dropped
+abbrev pub api_remove : Seen → ItemId → Recall → Bool → Api
+api_remove seen id (by_id true) true = api_drop id
+api_remove seen id recall gone = api_of seen (jobs.Remove id) (does_now (jobs.Remove id) seen)
+
+-- part of the history
+abbrev pub api_rows : Recall → Api
+api_rows (page rows) = tells (rows_by rows)
+api_rows recall = tells (rows_by [])
+
+-- what a task does, where the history told this of it
+abbrev pub api_task : Seen → Recall → Task → Api
+api_task seen recall (tasks.Job job) = api_of seen job (does_now job seen)
+api_task seen recall (tasks.Add order) = api_add seen order recall (is_free order.word seen.list.items)
+api_task seen recall (tasks.Remove id) = api_remove seen id recall (is_gone id.0 seen.list.items)
+api_task seen recall (tasks.Page window) = tells (page_by seen.list.items window)
+api_task seen recall tasks.Archive = api_archive seen
+api_task seen recall (tasks.History window) = api_rows recall
+api_task seen recall tasks.Report = tells (report_by seen.list.items)
+api_task seen recall tasks.Stop = tells stop_by
+
+abbrev pub api_refused : Refusal → Api
+api_refused refusal = tells (trouble_of (troubles.Refused refusal))
+
+abbrev pub api_asked : Seen → List Row → Result Call Refusal → Api
+api_asked seen rows (Ok call) = api_task seen (recall_of seen.list.items rows (task_by call)) (task_by call)
+api_asked seen rows (Err refusal) = api_refused refusal
+
+-- what a request does, where the history has these rows
+abbrev pub api : Seen → List Row → ApiRequest → Api
+api seen rows request = api_asked seen rows (asked request)

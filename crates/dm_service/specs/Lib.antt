@@ -1,3 +1,4 @@
 pub mod Tasks
+pub mod Recalls
 pub mod Replies
 pub mod Api

@@ -12,7 +12,9 @@ use Rattle.dm_does.specs.declared.course.Course.TheVariants.{Brings, Ends}
 use Rattle.dm_does.specs.declared.course.Show.{Show}
 use Rattle.dm_does.specs.declared.course.Show.TheVariants as shows
 use Rattle.dm_call.specs.declared.call.Window.{Window}
-use Rattle.dm_response.specs.Json.{item_data, items_data, number_data}
+use Rattle.dm_hist.specs.declared.row.Row.{Row}
+use Rattle.dm_shown.specs.Answering.{add_by_row}
+use Rattle.dm_response.specs.Json.{item_data, items_data, number_data, row_data, rows_data}
 use Rattle.dm_response.specs.Reply.{reply_of, trouble_of}
 use Rattle.dm_response.specs.declared.reply.ApiReply.{ApiReply}
 use Rattle.dm_response.specs.declared.reply.Media.TheVariants.{Json, Plain}
@@ -48,6 +50,20 @@ report_by items = reply_of 200 Plain None (report_of items) false
 abbrev pub stop_by : ApiReply
 stop_by = told stopping_data true
 
+-- how many items were moved to the history
+abbrev pub archived_data : ℕ → Data
+archived_data count = object (put (codes "archived") (number_data count) no_members)
+
+abbrev pub archived_by : ℕ → ApiReply
+archived_by count = told (archived_data count) false
+
+abbrev pub removed_reply : ItemId → ApiReply
+removed_reply id = told (removed_data id) false
+
+-- part of the history
+abbrev pub rows_by : List Row → ApiReply
+rows_by rows = told (rows_data rows) false
+
 -- an item as it stands behind the request's entries
 abbrev pub shown : Option Item → ApiReply
 shown None = trouble_of troubles.Memory
@@ -76,3 +92,11 @@ ended_by id item show (Some trouble) = trouble_of trouble
 abbrev pub reply_by : ItemId → Option Item → Course → ApiReply
 reply_by id item (Ends verdict show) = ended_by id item show (trouble_by verdict)
 reply_by id item (Brings brought slices) = shown item
+
+abbrev pub row_told : Row → Option Trouble → ApiReply
+row_told row None = told (row_data row) false
+row_told row (Some trouble) = trouble_of trouble
+
+-- a row that has the word of an item that is to be added from this address: it is shown, where it has the address
+abbrev pub row_by : List ℕ → Row → ApiReply
+row_by address row = row_told row (trouble_by (add_by_row address row))

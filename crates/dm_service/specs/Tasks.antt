@@ -13,9 +13,9 @@ order_by named = record { word = named.word; address = named.address; wish = nam
 
 abbrev pub task_by : Call → Task
 task_by (calls.Page window) = tasks.Page window
-task_by (calls.Add named) = tasks.Job (jobs.Add (order_by named))
+task_by (calls.Add named) = tasks.Add (order_by named)
 task_by (calls.Show id) = tasks.Job (jobs.Show id)
-task_by (calls.Remove id) = tasks.Job (jobs.Remove id)
+task_by (calls.Remove id) = tasks.Remove id
 task_by (calls.Pause id) = tasks.Job (jobs.Pause id)
 task_by (calls.Resume id) = tasks.Job (jobs.Resume id 1)
 task_by (calls.Cancel id) = tasks.Job (jobs.Cancel id)

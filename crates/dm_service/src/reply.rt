@@ -1,18 +1,21 @@
 //! What is replied, by how a job goes on.
 ghost use Rattle.std.specs.Prelude.{◌≡◌, false, None, IfOk};
 ghost use Rattle.std.specs.Option.{option_copied};
-ghost use Rattle.dm_service.specs.Replies.{done_by, items_after, page_by, page_of, removed_data, reply_by, report_by, shown as shown_by, stop_by, stopping_data, told, trouble_by};
+ghost use Rattle.dm_service.specs.Replies.{archived_by, archived_data, done_by, items_after, page_by, page_of, removed_data, removed_reply as removed_by, reply_by, report_by, row_by, row_told, rows_by, shown as shown_by, stop_by, stopping_data, told, trouble_by};
 ghost use Rattle.serde_json.specs.View.{view};
 ghost use Rattle.dm_response.specs.Reply.{reply_of};
 ghost use Rattle.dm_response.specs.declared.reply.Media.TheVariants.{Json};
 
 use dm_call::Window;
 use dm_does::{Course, Show};
+use dm_hist::Row;
 use dm_item::Items;
 use dm_report::{Verdict, report_text};
 use dm_response::{
-    ApiReply, Media, Trouble, item_text, items_text, reply_with, text_of, trouble_reply,
+    ApiReply, Media, Trouble, item_text, items_text, reply_with, row_text, rows_text, text_of,
+    trouble_reply,
 };
+use dm_shown::add_by_row;
 use dm_types::{Item, ItemId, NoMemory, Text};
 use http::StatusCode;
 use serde_json::{Value, json};
@@ -41,7 +44,7 @@ fn done(alloc: Global, id: ItemId, item: Option<&Item>, show: Show) -> Result<Ap
     ensures { IfOk result (λ reply. reply ≡ done_by id (option_copied item.entry) show) }
 {
     match show {
-        Show::Nothing => removed(alloc, id),
+        Show::Nothing => removed_reply(alloc, id),
         _ => shown(alloc, item),
     }
 }
@@ -73,8 +76,9 @@ fn trouble_of_verdict(verdict: Verdict) -> Option<Trouble>
     }
 }
 
-fn removed(alloc: Global, id: ItemId) -> Result<ApiReply, NoMemory>
-    ensures { IfOk result (λ reply. reply ≡ told (removed_data id) false) }
+/// The reply that says which item or row is removed.
+pub fn removed_reply(alloc: Global, id: ItemId) -> Result<ApiReply, NoMemory>
+    ensures { IfOk result (λ reply. reply ≡ removed_by id) }
 {
     let value = removed_value(alloc, id)?;
     let text = text_of(alloc, &value)?;
@@ -144,6 +148,55 @@ pub fn report_reply(alloc: Global, items: &Items) -> Result<ApiReply, NoMemory>
         text.bytes(),
         false,
     )
+}
+
+/// The reply that says how many items were moved to the history.
+pub fn archived_reply(alloc: Global, count: u32) -> Result<ApiReply, NoMemory>
+    ensures { IfOk result (λ reply. reply ≡ archived_by count) }
+{
+    let value = archived_value(alloc, count)?;
+    let text = text_of(alloc, &value)?;
+    tell(alloc, &text, false)
+}
+
+fn archived_value(alloc: Global, count: u32) -> Result<Value, NoMemory>
+    ensures { IfOk result (λ value. view value ≡ archived_data count) }
+{
+    let value = json!(in alloc; {"archived": count})?;
+    Ok(value)
+}
+
+/// The reply that shows part of the history.
+pub fn rows_reply(alloc: Global, rows: &[Row]) -> Result<ApiReply, NoMemory>
+    ensures { IfOk result (λ reply. reply ≡ rows_by rows.now) }
+{
+    let text = rows_text(alloc, rows)?;
+    tell(alloc, &text, false)
+}
+
+/// The reply where a row has the word of an item that is to be added from this address: the row is shown, where it has the
+/// address.
+pub fn row_reply(alloc: Global, row: &Row, address: &[u8]) -> Result<ApiReply, NoMemory>
+    ensures { IfOk result (λ reply. reply ≡ row_by address.now row.now) }
+{
+    show_by(alloc, row, add_by_row(row, address))
+}
+
+/// Shows a row, where this is no trouble.
+fn show_by(alloc: Global, row: &Row, verdict: Verdict) -> Result<ApiReply, NoMemory>
+    ensures { IfOk result (λ reply. reply ≡ row_told row.now (trouble_by verdict)) }
+{
+    match trouble_of_verdict(verdict) {
+        Some(trouble) => trouble_reply(alloc, trouble),
+        None => show_row(alloc, row),
+    }
+}
+
+fn show_row(alloc: Global, row: &Row) -> Result<ApiReply, NoMemory>
+    ensures { IfOk result (λ reply. reply ≡ row_told row.now None) }
+{
+    let text = row_text(alloc, row)?;
+    tell(alloc, &text, false)
 }
 
 /// A reply of status 200 with this content.

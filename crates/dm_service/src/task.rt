@@ -5,12 +5,17 @@ ghost use Rattle.dm_service.specs.Tasks.{order_by, task_by};
 use dm_answers::Order;
 use dm_call::{Call, Named, Window};
 use dm_does::Job;
+use dm_types::ItemId;
 
 /// What is to be done for a call.
 #[derive(Debug, Drop)]
 pub enum Task {
-    /// A job at the list.
+    /// A job at the list, which asks nothing of the history.
     Job(Job),
+    /// An item is added, where no row of the history has its word.
+    Add(Order),
+    /// An item is removed, or else its row.
+    Remove(ItemId),
     /// Part of the list is shown.
     Page(Window),
     /// What is over goes to the history.
@@ -29,9 +34,9 @@ pub fn task_of(call: Call) -> Task
 {
     match call {
         Call::Page(window) => Task::Page(window),
-        Call::Add(named) => Task::Job(Job::Add(order_of(named))),
+        Call::Add(named) => Task::Add(order_of(named)),
         Call::Show(id) => Task::Job(Job::Show(id)),
-        Call::Remove(id) => Task::Job(Job::Remove(id)),
+        Call::Remove(id) => Task::Remove(id),
         Call::Pause(id) => Task::Job(Job::Pause(id)),
         Call::Resume(id) => Task::Job(Job::Resume(id, 1)),
         Call::Cancel(id) => Task::Job(Job::Cancel(id)),

@@ -38,8 +38,9 @@ use Rattle.dm_does.specs.World.{IsLater, World}
 use Rattle.dm_does.proofs.Openings.{opening_done, tried_later}
 use Rattle.dm_does.proofs.Sessions.{session_ends, session_holds, session_keeps, session_leaves}
 use Rattle.dm_does.proofs.Touching.{opening_touches}
-use Rattle.dm_works.specs.Answering.{AnswersOn}
+use Rattle.dm_past.specs.Past.{Past}
 use Rattle.dm_works.specs.Moving.{Moved, Steps, fell, recorded, same}
+use Rattle.dm_works.specs.Serving.{AnswersOn, both}
 use Rattle.dm_session.specs.Explaining.{Outside, ServeRuns, world_of}
 use Rattle.dm_session.specs.Looping.{ClosesSo, ShutsSo}
 use Rattle.dm_session.specs.Serving.{Line, ServesList, by_broken, said_at_end}
@@ -184,9 +185,9 @@ module _ {D O : Type 0} (tells : Type 0) (clock : D → Clock) (counts : D → D
     near = near told;
   }
 
-  pub opened_runs : (conns_tell accept_failed : Type 0) (line line' : Line) (requests : ℕ) (closed : Closed) → ClosesSo conns_tell (AnswersOn counts) opened left line.over line'.over line.count line'.count accept_failed requests closed → ShutsSo left ended
-      → ServeRuns (record { disk = tells; conns = conns_tell; accept_failed = accept_failed }) counts says origin at before after (far start) (far ended.disk) line line' requests (said_at_end closed ended.broken)
-  opened_runs conns_tell accept_failed line line' requests closed closes shuts = record {
+  pub opened_runs : (conns_tell knows accept_failed : Type 0) (past past' : Past) (line line' : Line) (requests : ℕ) (closed : Closed) → ClosesSo conns_tell (AnswersOn knows counts) (both opened past) (both left past') line.over line'.over line.count line'.count accept_failed requests closed → ShutsSo left ended
+      → ServeRuns (record { disk = tells; conns = conns_tell; past = knows; accept_failed = accept_failed }) counts says origin at before after past past' (far start) (far ended.disk) line line' requests (said_at_end closed ended.broken)
+  opened_runs conns_tell knows accept_failed past past' line line' requests closed closes shuts = record {
     run = Opened here;
     serves = record {
       taken = subst (λ (n : ℕ). IsTaken n found) limits is.taken;
@@ -213,13 +214,13 @@ module _ {D O : Type 0} (tells : Type 0) (clock : D → Clock) (counts : D → D
   }
 
   -- with the disk that is handed back, and how it is told
-  pub ends_so : (conns_tell accept_failed : Type 0) (line line' : Line) (requests : ℕ) (closed : Closed) → ClosesSo conns_tell (AnswersOn counts) opened left line.over line'.over line.count line'.count accept_failed requests closed → ShutsSo left ended
+  pub ends_so : (conns_tell knows accept_failed : Type 0) (past past' : Past) (line line' : Line) (requests : ℕ) (closed : Closed) → ClosesSo conns_tell (AnswersOn knows counts) (both opened past) (both left past') line.over line'.over line.count line'.count accept_failed requests closed → ShutsSo left ended
       → (end : D) → end ≡ ended.disk → (said : Said) → said ≡ said_at_end closed ended.broken
-      → ServeRuns (record { disk = tells; conns = conns_tell; accept_failed = accept_failed }) counts says origin at before (world_of clock counts end) (far start) (far end) line line' requests said
-  ends_so conns_tell accept_failed line line' requests closed closes shuts end end_is said said_is =
-      subst (λ (d : D). ServeRuns (record { disk = tells; conns = conns_tell; accept_failed = accept_failed }) counts says origin at before (world_of clock counts d) (far start) (far d) line line' requests said) (sym end_is)
-      (subst (λ (c : Said). ServeRuns (record { disk = tells; conns = conns_tell; accept_failed = accept_failed }) counts says origin at before after (far start) (far ended.disk) line line' requests c) (sym said_is)
-      (opened_runs conns_tell accept_failed line line' requests closed closes shuts))
+      → ServeRuns (record { disk = tells; conns = conns_tell; past = knows; accept_failed = accept_failed }) counts says origin at before (world_of clock counts end) past past' (far start) (far end) line line' requests said
+  ends_so conns_tell knows accept_failed past past' line line' requests closed closes shuts end end_is said said_is =
+      subst (λ (d : D). ServeRuns (record { disk = tells; conns = conns_tell; past = knows; accept_failed = accept_failed }) counts says origin at before (world_of clock counts d) past past' (far start) (far d) line line' requests said) (sym end_is)
+      (subst (λ (c : Said). ServeRuns (record { disk = tells; conns = conns_tell; past = knows; accept_failed = accept_failed }) counts says origin at before after past past' (far start) (far ended.disk) line line' requests c) (sym said_is)
+      (opened_runs conns_tell knows accept_failed past past' line line' requests closed closes shuts))
 
 -- whether the list is broken behind the interruptions
 pub shut_ok : {D O : Type 0} (old new : View D O) (done : Unit {0}) → ShutAnswers old new (Ok done) → new.broken ≡ false

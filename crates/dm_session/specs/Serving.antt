@@ -1,4 +1,4 @@
--- What a session of the service made of the list, and how it ended.
+-- What a session of the service made of the list and of the history, and how it ended.
 use Rattle.std.specs.Prelude.{◌≡◌, ◌⊎◌, ℕ, ◌≤◌, Bool, true, false, List, [], ◌++◌, length, Result}
 use Rattle.dm_types.specs.Limits.{most_items}
 use Rattle.dm_types.specs.declared.item.Item.{Item}
@@ -17,7 +17,8 @@ use Rattle.dm_does.specs.Answering.{SaysFault, SaysUnread}
 use Rattle.dm_does.specs.Log.{ArePlain, Log, Run, Untouched, Unread, Unopened, Opened, tried_of}
 use Rattle.dm_does.specs.Session.{log_of}
 use Rattle.dm_does.specs.World.{World}
-use Rattle.dm_works.specs.Answering.{AnswersOn}
+use Rattle.dm_past.specs.Past.{Past}
+use Rattle.dm_works.specs.Serving.{AnswersOn, both}
 use Rattle.dm_session.specs.Turning.{AreServed, EndsBy, Turn}
 use Rattle.dm_session.specs.declared.turning.Closed.{Closed}
 use Rattle.dm_session.specs.declared.turning.Closed.TheVariants as closes
@@ -38,8 +39,9 @@ pub record Line : Type 0 where
   pub over : List Over
   pub count : ℕ
 
--- The list was opened. The connections were served from it one after another, each by what it asks of the list as the ones before it left it; and then all that ran was interrupted.
-pub record ServesList {D O : Type 0} (tells conns_tell accept_failed : Type 0) (counts : D → DiskKind → ℕ) (origin : O) (at : ℕ) (before after : World) (line line' : Line) (requests : ℕ) (log : Log) (said : Said) : Type 0 where
+-- The list was opened. The connections were served from it and from the history one after another, each by what it asks of both as the ones before it left
+-- them; and then all that ran was interrupted.
+pub record ServesList {D O : Type 0} (tells conns_tell told accept_failed : Type 0) (counts : D → DiskKind → ℕ) (origin : O) (at : ℕ) (before after : World) (past past' : Past) (line line' : Line) (requests : ℕ) (log : Log) (said : Said) : Type 0 where
   -- all that was tried is lawful behind what was found, the opening did what openings do, and no later entry opens the list again
   pub taken : IsTaken most_items log.found
   pub lawful : IsLawful (log.found ++ tried_of log)
@@ -53,22 +55,24 @@ pub record ServesList {D O : Type 0} (tells conns_tell accept_failed : Type 0) (
   pub opened_is : IsOf (log.found ++ log.opening) opened.items
   pub log_is : log ≡ log_of log.found opened ended
   pub turns : List Turn
-  pub served : AreServed conns_tell (AnswersOn counts) opened left line.over line'.over line.count line'.count turns
+  pub served : AreServed conns_tell (AnswersOn told counts) (both opened past) (both left past') line.over line'.over line.count line'.count turns
   pub closed : Closed
   pub ends : EndsBy requests accept_failed turns closed
   pub shut : Result (Unit {0}) DeskFault
   pub shuts : ShutAnswers left ended shut
   pub said_is : said ≡ said_at_end closed ended.broken
 
--- no journal was read
-pub record ServesUnread (before after : World) (line line' : Line) (said : Said) : Type 0 where
+-- no journal was read, and the history wasn't asked
+pub record ServesUnread (before after : World) (past past' : Past) (line line' : Line) (said : Said) : Type 0 where
   pub says : SaysUnread before after said
   pub none : line' ≡ line
+  pub same : past' ≡ past
 
--- The opening was refused behind what it read. What it tried is lawful there: these entries were recorded, then one failed at most, and the rest wasn't tried.
-pub record ServesUnopened (tells : Type 0) (at : ℕ) (before after : World) (line line' : Line) (found recorded failed rest : History) (said : Said) : Type 0 where
+-- The opening was refused behind what it read, and the history wasn't asked. What it tried is lawful there: these entries were recorded, then one failed at most, and the rest wasn't tried.
+pub record ServesUnopened (tells : Type 0) (at : ℕ) (before after : World) (past past' : Past) (line line' : Line) (found recorded failed rest : History) (said : Said) : Type 0 where
   pub says : SaysFault before after said
   pub none : line' ≡ line
+  pub same : past' ≡ past
   pub taken : IsTaken most_items found
   pub lawful : IsLawful (found ++ (recorded ++ (failed ++ rest)))
   pub one : length failed ≤ 1
@@ -76,8 +80,8 @@ pub record ServesUnopened (tells : Type 0) (at : ℕ) (before after : World) (li
   pub tried : IsTried tells before.disk after.disk at found (recorded ++ (failed ++ rest)) left
 
 -- by how far it came
-abbrev pub ServesSo : {D O : Type 0} → Type 0 → Type 0 → Type 0 → (D → DiskKind → ℕ) → O → ℕ → World → World → Line → Line → ℕ → Said → Run → Type 0
-ServesSo tells conns_tell accept_failed counts origin at before after line line' requests said Untouched = ⊥
-ServesSo tells conns_tell accept_failed counts origin at before after line line' requests said Unread = ServesUnread before after line line' said
-ServesSo tells conns_tell accept_failed counts origin at before after line line' requests said (Unopened found recorded failed rest) = ServesUnopened tells at before after line line' found recorded failed rest said
-ServesSo tells conns_tell accept_failed counts origin at before after line line' requests said (Opened log) = ServesList tells conns_tell accept_failed counts origin at before after line line' requests log said
+abbrev pub ServesSo : {D O : Type 0} → Type 0 → Type 0 → Type 0 → Type 0 → (D → DiskKind → ℕ) → O → ℕ → World → World → Past → Past → Line → Line → ℕ → Said → Run → Type 0
+ServesSo tells conns_tell told accept_failed counts origin at before after past past' line line' requests said Untouched = ⊥
+ServesSo tells conns_tell told accept_failed counts origin at before after past past' line line' requests said Unread = ServesUnread before after past past' line line' said
+ServesSo tells conns_tell told accept_failed counts origin at before after past past' line line' requests said (Unopened found recorded failed rest) = ServesUnopened tells at before after past past' line line' found recorded failed rest said
+ServesSo tells conns_tell told accept_failed counts origin at before after past past' line line' requests said (Opened log) = ServesList tells conns_tell told accept_failed counts origin at before after past past' line line' requests log said

@@ -1,4 +1,4 @@
-//! The service: the list of a disk is opened, connections are answered from it one after another, and it is shut.
+//! The service: the list of a disk is opened, connections are answered from it and from the history one after another, and it is shut.
 #![tactic(auto)]
 
 mod closing;

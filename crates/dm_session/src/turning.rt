@@ -4,8 +4,8 @@ ghost use Rattle.dm_types.specs.Faults.{NoneFell, Rose};
 ghost use Rattle.dm_edge.specs.declared.fault.EdgeFault.TheVariants.{Failed};
 ghost use Rattle.dm_store.specs.Keeps.{IsDesk};
 ghost use Rattle.dm_store.specs.Origin.{said_of};
-ghost use Rattle.dm_works.specs.Answering.{AnswersOn};
 ghost use Rattle.dm_works.specs.Moving.{Steps};
+ghost use Rattle.dm_works.specs.Serving.{AnswersOn, service_of};
 ghost use Rattle.dm_session.specs.Turning.{stops_behind};
 ghost use Rattle.dm_session.specs.Looping.{ClosesSo, TurnedSo, turned_by};
 
@@ -13,6 +13,7 @@ use dm_api::Served;
 use dm_conns::Conns;
 use dm_disk_model::Disk;
 use dm_edge::{Clock, EdgeFault, Origin};
+use dm_hist::Keeper;
 use dm_items::Desk;
 use dm_works::serve_one;
 use std::alloc::Global;
@@ -52,15 +53,16 @@ fn by_stops(stops: bool) -> Turned
 }
 
 /// Accepts the next connection, serves it and hands it back. The clock is asked once for it.
-fn serve_next<D: Disk, O: Origin, C: Clock, X: Conns>(
+fn serve_next<D: Disk, O: Origin, K: Keeper, C: Clock, X: Conns>(
     alloc: Global,
     desk: &mut Desk<D, O>,
+    keeper: &mut K,
     conns: &mut X,
     clock: &mut C,
 ) -> Turned
     requires desk { IsDesk D.tells D.history desk.old }
     ensures kept { IsDesk D.tells D.history desk.new }
-    ensures turned { TurnedSo X.tells (AnswersOn D.faults) desk.old desk.new (X.over conns.old) (X.over conns.new) (X.served conns.old) (X.served conns.new) (Rose (X.faults conns.old Failed) (X.faults conns.new Failed)) result }
+    ensures turned { TurnedSo X.tells (AnswersOn K.tells D.faults) (service_of K.rows K.faults desk.old keeper.old) (service_of K.rows K.faults desk.new keeper.new) (X.over conns.old) (X.over conns.new) (X.served conns.old) (X.served conns.new) (Rose (X.faults conns.old Failed) (X.faults conns.new Failed)) result }
     ensures steps { Steps D.tells D.history D.faults D.far (λ o. said_of (O.says o)) desk.old desk.new }
     ensures later { NoneFell (X.faults conns.old) (X.faults conns.new) }
 {
@@ -68,7 +70,7 @@ fn serve_next<D: Disk, O: Origin, C: Clock, X: Conns>(
         Ok(conn) => {
             let mut conn = conn;
             let at = clock.now();
-            let served = serve_one(alloc, desk, &mut conn, at);
+            let served = serve_one(alloc, desk, keeper, &mut conn, at);
             conns.done(conn);
             by_stops(stops(served))
         }
@@ -77,22 +79,23 @@ fn serve_next<D: Disk, O: Origin, C: Clock, X: Conns>(
 }
 
 /// Serves so many connections, one after another, unless one ends it.
-pub(crate) fn serve_all<D: Disk, O: Origin, C: Clock, X: Conns>(
+pub(crate) fn serve_all<D: Disk, O: Origin, K: Keeper, C: Clock, X: Conns>(
     alloc: Global,
     desk: &mut Desk<D, O>,
+    keeper: &mut K,
     conns: &mut X,
     clock: &mut C,
     requests: u32,
 ) -> Closed
     requires desk { IsDesk D.tells D.history desk.old }
     ensures kept { IsDesk D.tells D.history desk.new }
-    ensures closes { ClosesSo X.tells (AnswersOn D.faults) desk.old desk.new (X.over conns.old) (X.over conns.new) (X.served conns.old) (X.served conns.new) (Rose (X.faults conns.old Failed) (X.faults conns.new Failed)) requests result }
+    ensures closes { ClosesSo X.tells (AnswersOn K.tells D.faults) (service_of K.rows K.faults desk.old keeper.old) (service_of K.rows K.faults desk.new keeper.new) (X.over conns.old) (X.over conns.new) (X.served conns.old) (X.served conns.new) (Rose (X.faults conns.old Failed) (X.faults conns.new Failed)) requests result }
     ensures steps { Steps D.tells D.history D.faults D.far (λ o. said_of (O.says o)) desk.old desk.new }
     ensures later { NoneFell (X.faults conns.old) (X.faults conns.new) }
 {
     let mut left = requests;
     'turns: while left > 0 {
-        match serve_next(alloc, desk, conns, clock) {
+        match serve_next(alloc, desk, keeper, conns, clock) {
             Turned::GoesOn => left -= 1,
             Turned::Stops => return Closed::Stopped,
             Turned::NotAccepted => return Closed::AcceptFailed,

@@ -3,3 +3,5 @@ pub mod Calling
 mod Settling
 mod Pausing
 mod Replying
+pub mod Recalled
+mod Archived

@@ -16,20 +16,16 @@ use Rattle.dm_does.specs.declared.course.Course.TheVariants.{Ends}
 use Rattle.dm_does.specs.declared.course.Show.TheVariants.{Nothing}
 use Rattle.dm_does.specs.declared.job.Job.{Job}
 use Rattle.dm_does.specs.Doing.{Doing}
-use Rattle.dm_call.specs.Asked.{asked}
 use Rattle.dm_call.specs.Fitting.{FitsCall}
 use Rattle.dm_call.specs.declared.call.Call.{Call}
 use Rattle.dm_call.specs.declared.call.Call.TheVariants as calls
-use Rattle.dm_call.specs.declared.call.Refusal.{Refusal}
-use Rattle.dm_call.specs.declared.request.ApiRequest.{ApiRequest}
 use Rattle.dm_response.specs.Reply.{trouble_of}
 use Rattle.dm_response.specs.declared.reply.ApiReply.{ApiReply}
 use Rattle.dm_response.specs.declared.trouble.Trouble.TheVariants as troubles
 use Rattle.dm_service.specs.Tasks.{task_by}
-use Rattle.dm_service.specs.declared.task.Task.{Task}
-use Rattle.dm_service.specs.Api.{Api, api_asked, api_of, api_task, does_now, is_change, item_by, removed_by, tells}
+use Rattle.dm_service.specs.Api.{Api, api_of, does_now, is_change, item_by, removed_by, tells}
 use Rattle.dm_service.specs.Replies.{reply_by}
-use Rattle.dm_works.specs.Answering.{Answered, AnswersOn, Gives}
+use Rattle.dm_works.specs.Answering.{Answered, Gives}
 use Rattle.dm_works.specs.Answering as answering
 use Rattle.dm_works.specs.Deciding.{Decided, DidAll, FitsTask, Refused, Settles, did, fell, seen_of, wanted}
 
@@ -93,14 +89,3 @@ fits_task calls.Archive fits = tt
 fits_task (calls.History window) fits = tt
 fits_task calls.Report fits = tt
 fits_task calls.Stop fits = tt
-
-module _ {D O : Type 0} (counts : D → DiskKind → ℕ) (old new : View D O) (request : ApiRequest) (at : ℕ) (result : Result ApiReply NoMemory) where
-  pub call_answered : (call : Call) (task : Task) → asked request ≡ Ok call → task ≡ task_by call → Answered counts (api_task (seen_of old at) task) old new result → AnswersOn counts old request at result new
-  call_answered call task is task_is answered =
-      subst (λ (a : Result Call Refusal). Answered counts (api_asked (seen_of old at) a) old new result) (sym is)
-      (subst (λ (t : Task). Answered counts (api_task (seen_of old at) t) old new result) task_is answered)
-
-  pub call_refused : (refusal : Refusal) → new ≡ old → asked request ≡ Err refusal → IfOk result (λ told. told ≡ trouble_of (troubles.Refused refusal)) → AnswersOn counts old request at result new
-  call_refused refusal same is replied =
-      subst (λ (a : Result Call Refusal). Answered counts (api_asked (seen_of old at) a) old new result) (sym is)
-      (answering.did (λ changes. absurd (false≢true changes)) (inr (refl, same)) (gives (trouble_of (troubles.Refused refusal)) result replied))

@@ -1,15 +1,14 @@
--- How a request was answered: what it made of the desk, and what is replied.
+-- How a job at the list was answered: what it made of the desk, and what is replied.
 use Rattle.std.specs.Prelude.{◌≡◌, ◌⊎◌, ℕ, false, Result, Ok, Err, IsTrue}
 use Rattle.dm_types.specs.Faults.{Rose}
 use Rattle.dm_types.specs.declared.kinds.DiskKind.{DiskKind}
 use Rattle.dm_types.specs.declared.memory.NoMemory.{NoMemory}
 use Rattle.dm_store.specs.View.{View}
-use Rattle.dm_call.specs.declared.request.ApiRequest.{ApiRequest}
 use Rattle.dm_response.specs.Reply.{trouble_of}
 use Rattle.dm_response.specs.declared.reply.ApiReply.{ApiReply}
 use Rattle.dm_response.specs.declared.trouble.Trouble.TheVariants as troubles
-use Rattle.dm_service.specs.Api.{Api, api}
-use Rattle.dm_works.specs.Deciding.{DidAll, FellBy, Refused, seen_of}
+use Rattle.dm_service.specs.Api.{Api}
+use Rattle.dm_works.specs.Deciding.{DidAll, FellBy, Refused}
 
 -- this is replied, or memory was wanting for the reply
 abbrev pub Gives : ApiReply → Result ApiReply NoMemory → Type 0
@@ -24,7 +23,3 @@ pub data Answered {D O : Type 0} (counts : D → DiskKind → ℕ) (doing : Api)
   fell : (kind : DiskKind) → Rose (counts old.disk kind) (counts new.disk kind) → FellBy counts kind doing.entries old new → Gives (trouble_of troubles.Disk) result → Answered counts doing old new result
   -- memory was wanting, and nothing changed
   wanted : new ≡ old → Gives (trouble_of troubles.Memory) result → Answered counts doing old new result
-
--- the answer to this request at this moment
-abbrev pub AnswersOn : {D O : Type 0} → (D → DiskKind → ℕ) → View D O → ApiRequest → ℕ → Result ApiReply NoMemory → View D O → Type 0
-AnswersOn counts old request at result new = Answered counts (api (seen_of old at) request) old new result

@@ -68,4 +68,5 @@ FitsJob _ = Unit {0}
 
 abbrev pub FitsTask : Task → Type 0
 FitsTask (tasks.Job job) = FitsJob job
+FitsTask (tasks.Add order) = IsOrder order
 FitsTask _ = Unit {0}

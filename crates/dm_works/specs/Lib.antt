@@ -2,3 +2,5 @@ pub mod Moving
 pub mod Courses
 pub mod Deciding
 pub mod Answering
+pub mod Serving
+pub mod Troubles

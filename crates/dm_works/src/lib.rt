@@ -1,10 +1,12 @@
-//! Requests to the service are answered from the list: what each asks is done on the desk, and the reply goes out
+//! Requests to the service are answered from the list and the history: what each asks is done on both, and the reply goes out
 //! to its connection.
 #![tactic(auto)]
 
 mod answering;
 mod changing;
 mod deciding;
+mod jobs;
+mod recalling;
 mod serve;
 
 pub use answering::answer;

@@ -4,7 +4,7 @@ use Rattle.dm_edge.specs.Counts.{raised_by}
 use Rattle.dm_edge.specs.declared.fault.EdgeFault.TheVariants.{Failed}
 use Rattle.dm_conns.specs.Conn.{Over, over_of}
 use Rattle.dm_store.specs.Origin.{said_of}
-use Rattle.dm_works.specs.Answering.{AnswersOn}
+use Rattle.dm_works.specs.Serving.{AnswersOn, service_of}
 use Rattle.dm_works.proofs.Stepping.{steps_same}
 use Rattle.dm_session.specs.Turning.{stops_behind}
 use Rattle.dm_session.proofs.Turned.{as_failed, serves_told, turn_served, turned_so}
@@ -17,12 +17,15 @@ returns-in-Ok-clause-turned g c =
     let tell = g.met.X.Conns.conns_tell in
     let before = c.in-Ok.conn in
     let after = c.serve_one-served.new.conn in
-    let answers = AnswersOn g.D.Disk.faults in
-    turned_so X.tells answers c.args.desk.now c.serve_one-served.new.desk (X.over c.args.conns.now) (X.over c.done.new.self) (X.served c.args.conns.now) (X.served c.done.new.self) (Rose (X.faults c.args.conns.now Failed) (X.faults c.done.new.self Failed))
+    let K = g.K.Keeper in
+    let answers = AnswersOn K.tells g.D.Disk.faults in
+    let service = service_of K.rows K.faults c.args.desk.now c.args.keeper.now in
+    let then = service_of K.rows K.faults c.serve_one-served.new.desk c.serve_one-served.new.keeper in
+    turned_so X.tells answers service then (X.over c.args.conns.now) (X.over c.done.new.self) (X.served c.args.conns.now) (X.served c.done.new.self) (Rose (X.faults c.args.conns.now Failed) (X.faults c.done.new.self Failed))
     (stops_behind c.serve_one-served.result) c.stops.result c.by_stops.result c.stops.ensures c.by_stops.ensures
     (turn_served X.tells (S.told before) (S.told after) (S.faults before) (S.faults after) (λ told. c.in-Ok.ensures.fresh (tell told)) (c.in-Ok.ensures.unfailed Failed)
-    answers c.args.desk.now c.serve_one-served.new.desk c.now-at.result c.serve_one-served.result
-    (serves_told S.tells X.tells tell (S.told before) (S.told after) (S.faults before) (S.faults after) answers c.args.desk.now c.serve_one-served.new.desk c.now-at.result c.serve_one-served.result c.serve_one-served.ensures.served)
+    answers service then c.now-at.result c.serve_one-served.result
+    (serves_told S.tells X.tells tell (S.told before) (S.told after) (S.faults before) (S.faults after) answers service then c.now-at.result c.serve_one-served.result c.serve_one-served.ensures.served)
     (X.over c.args.conns.now) (X.over c.done.new.self) (X.served c.args.conns.now) (X.served c.done.new.self)
     (λ told. c.done.ensures.over told ∙ ap (λ (o : List Over). o ++ over_of (S.told after) (S.faults after) ∷ []) c.in-Ok.ensures.over)
     (c.done.ensures.served ∙ ap (raised_by 1) c.in-Ok.ensures.served))

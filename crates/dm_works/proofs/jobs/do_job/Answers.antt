@@ -1,5 +1,5 @@
 use Rattle.dm_works.proofs.Replying.{job_answered, job_refused}
-use Rattle.dm_works.proofs.answering.do_job.Goals as goal
+use Rattle.dm_works.proofs.jobs.do_job.Goals as goal
 
 pub returns-in-Ok-clause-answers : goal.returns-in-Ok-clause-answers
 returns-in-Ok-clause-answers g c =
