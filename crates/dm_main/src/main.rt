@@ -16,6 +16,7 @@ use dm_edge::EveryByte;
 use dm_edge_real::{StreamSink, SystemClock, TcpNet};
 use dm_hist::{Keeper, KeeperFault};
 use dm_hist_sql::SqlKeeper;
+use dm_rehearse_run::{read_rehearsal, run_rehearsal};
 use dm_serve::{is_serve, run_serve};
 use dm_types::{DiskKind, Text};
 use dm_words::{BadWords, read_serve};
@@ -211,6 +212,10 @@ fn main(rt: HostRuntime) -> ExitCode {
             return ExitCode::from(tell(alloc, Verdict::NoMemory, &mut out, &mut errs));
         }
     };
+    // Wholly in memory: no folder is made.
+    if let Some(number) = read_rehearsal(&words) {
+        return ExitCode::from(run_rehearsal(alloc, number, &mut out, &mut errs));
+    }
     if is_serve(&words) {
         let status = begin_service(rt, &words, streams.is_ok(), &mut out, &mut errs);
         return ExitCode::from(status);

@@ -1,0 +1,4 @@
+pub mod Picking
+pub mod Counting
+pub mod Lines
+pub mod Rehearsal

@@ -1,0 +1,5 @@
+pub mod Going
+pub mod Keeping
+pub mod Read
+pub mod Told
+pub mod Asking

@@ -1,0 +1,4 @@
+pub mod Kept
+pub mod Reading
+pub mod Running
+pub mod Printing
