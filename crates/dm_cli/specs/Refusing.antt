@@ -7,6 +7,8 @@ use Rattle.dm_does.specs.Jobs.{AskNothing, HasAddress, HasBadAddress, HasSomeJob
 use Rattle.dm_past.specs.All.{AsksNoTask}
 use Rattle.dm_past.specs.Words.{HasTask}
 use Rattle.dm_past.specs.declared.task.Task.{Task}
+use Rattle.dm_import.specs.Words.{HasImport}
+use Rattle.dm_cli.specs.Program.{AsksNoImport}
 
 -- no command of the list, or one for an address that is none
 abbrev pub IsRefusedFor : List (List ℕ) → Verdict → Type 0
@@ -19,8 +21,12 @@ abbrev pub RefusesJob : List (List ℕ) → Said → Type 0
 RefusesJob words said = IsRefusedFor words said.verdict × (said ≡ only said.verdict)
 
 -- and the words ask for no task of the history
+abbrev pub RefusesTask : List (List ℕ) → Said → Type 0
+RefusesTask words said = AsksNoTask words × RefusesJob words said
+
+-- nor for an import
 abbrev pub RefusesSo : List (List ℕ) → Said → Type 0
-RefusesSo words said = AsksNoTask words × RefusesJob words said
+RefusesSo words said = AsksNoImport words × RefusesTask words said
 
 -- the words are a command of the list: they are a job, or memory was wanting to read their address
 abbrev pub IsSomeJob : List (List ℕ) → Type 0
@@ -31,6 +37,15 @@ pub record IsSomeTask (words : List (List ℕ)) : Type 0 where
   pub task : Task
   pub has : HasTask words task
 
+-- a command of the list or of the history
+abbrev pub IsListed : List (List ℕ) → Type 0
+IsListed words = IsSomeTask words ⊎ IsSomeJob words
+
+-- the words ask for an import
+pub record IsSomeImport (words : List (List ℕ)) : Type 0 where
+  pub name : List ℕ
+  pub has : HasImport words name
+
 -- the words are a command
 abbrev pub IsSomeCommand : List (List ℕ) → Type 0
-IsSomeCommand words = IsSomeTask words ⊎ IsSomeJob words
+IsSomeCommand words = IsSomeImport words ⊎ IsListed words

@@ -3,10 +3,11 @@ ghost use Rattle.std.specs.Prelude.{ℕ, List, IfSome, IfNone};
 ghost use Rattle.dm_store.specs.Origin.{said_of};
 ghost use Rattle.dm_list.specs.Running.{ExplainsAll};
 ghost use Rattle.dm_list.specs.Writing.{outputs_of};
-ghost use Rattle.dm_cli.specs.Refusing.{IsSomeCommand, IsSomeJob, RefusesJob, RefusesSo};
+ghost use Rattle.dm_cli.specs.Refusing.{IsListed, IsSomeCommand, IsSomeJob, RefusesJob, RefusesSo, RefusesTask};
 
 use dm_disk_model::Disk;
 use dm_edge::{Clock, Net, Sink};
+use dm_import::read_import;
 use dm_list::{Ran, read_job, run_list};
 use dm_past::read_task;
 use dm_report::{Ending, Verdict};
@@ -48,14 +49,25 @@ fn refused_job(alloc: Global, words: &[Text]) -> Option<Ending>
     }
 }
 
+/// The same of words that ask for no import.
+fn refused_task(alloc: Global, words: &[Text]) -> Option<Ending>
+    ensures refused { IfSome result (RefusesTask words.now) }
+    ensures none { IfNone result (IsListed words.now) }
+{
+    match read_task(words) {
+        Some(_) => None,
+        None => refused_job(alloc, words),
+    }
+}
+
 /// Whether the words are refused before any disk is looked at, and what is said then: they are no command, or
 /// their address is refused. `None` where they are a command, or memory was wanting to read it.
 pub fn refused(alloc: Global, words: &[Text]) -> Option<Ending>
     ensures refused { IfSome result (RefusesSo words.now) }
     ensures none { IfNone result (IsSomeCommand words.now) }
 {
-    match read_task(words) {
+    match read_import(words) {
         Some(_) => None,
-        None => refused_job(alloc, words),
+        None => refused_task(alloc, words),
     }
 }

@@ -57,6 +57,14 @@ impl ImportRows {
         self.items.get(place as usize)
     }
 
+    /// The rows' vector, with no copy.
+    pub fn into_vec(self) -> Vec<ImportRow>
+        ensures { result.items ≡ self }
+    {
+        let ImportRows { items } = self;
+        items
+    }
+
     /// All rows.
     pub fn rows(&self) -> &[ImportRow]
         ensures { result.now ≡ self.now }

@@ -7,7 +7,7 @@ mod output;
 mod streams;
 mod words;
 
-use dm_cli::{Ending, Verdict, print_ending, refused, run_with_history};
+use dm_cli::{Ending, Verdict, print_ending, refused, run_program};
 use dm_conns::Conns;
 use dm_conns_real::TcpConns;
 use dm_disk_model::{Disk, NamesFault};
@@ -58,7 +58,7 @@ fn run_over<D: Disk + Drop, K: Keeper + Drop>(
     let mut keeper = keeper;
     let mut net = TcpNet::new(rt);
     let mut clock = SystemClock::new(rt);
-    let ran = run_with_history(
+    let ran = run_program(
         rt.alloc(),
         words,
         &[],

@@ -1,1 +1,0 @@
-use Rattle.dm_cli.proofs.words.refused.Goals as goal

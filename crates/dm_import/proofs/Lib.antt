@@ -1,0 +1,10 @@
+pub mod Fronts
+pub mod Tried
+pub mod Chains
+pub mod Printed
+pub mod Asking
+pub mod Sooner
+pub mod Closed
+pub mod Left
+pub mod Whole
+pub mod Promised
