@@ -64,6 +64,7 @@ module _ {D O : Type 0} (tells : Type 0) (clock : D → Clock) (says : O → Say
     asks = nothing (record { led = refl; lost = refl; wish = refl; told = refl; rounds = refl });
     closed_is = λ t. begun.closed_is ∙ sym (append-nil scene.closed);
     came = false;
+    some = λ never. absurd (false≢true never);
     all = λ never. absurd (false≢true never);
     holds = unread_holds text stop unread;
     shown = unread_shown text stop is unread before;
@@ -89,13 +90,14 @@ module _ {D O : Type 0} (tells : Type 0) (clock : D → Clock) (says : O → Say
       trace = leaves.trace;
       asks = anew (record { none = none; first = first; stable = stable; desk = old; live = begun.live 0; fresh = leaves.fresh; replied = leaves.replied; rounds = leaves.rounds });
       closed_is = leaves.ended.closed_is;
-      finished = record { digest = leaves.ended.digest; done = leaves.ended.done; saves = leaves.ended.saves; over = leaves.ended.over };
+      finished = record { some = leaves.ended.some; digest = leaves.ended.digest; done = leaves.ended.done; saves = leaves.ended.saves; over = leaves.ended.over };
     }
     fresh_drives first none stable (Err stop) leaves = record {
       trace = leaves.trace;
       asks = anew (record { none = none; first = first; stable = stable; desk = old; live = begun.live 0; fresh = leaves.fresh; replied = leaves.replied; rounds = leaves.rounds });
       closed_is = leaves.stopped.closed_is;
       came = leaves.stopped.came;
+      some = leaves.stopped.some;
       all = λ came. anew (record { none = none; first = first; stable = stable; desk = old; live = begun.live 0; fresh = leaves.fresh; replied = leaves.replied; rounds = leaves.all came });
       holds = leaves.stopped.holds;
       shown = if_net after leaves.trace stop leaves.stopped.shown;
@@ -108,13 +110,14 @@ module _ {D O : Type 0} (tells : Type 0) (clock : D → Clock) (says : O → Say
       trace = leaves.trace;
       asks = on (record { source = source; is = is; few = few; led = leaves.from.led_is; lost = leaves.from.lost_is; wish = leaves.from.wish_is; told = leaves.from.told_is; count = leaves.from.count_is; rounds = leaves.rounds });
       closed_is = leaves.ended.closed_is;
-      finished = record { digest = leaves.ended.digest; done = leaves.ended.done; saves = leaves.ended.saves; over = leaves.ended.over };
+      finished = record { some = leaves.ended.some; digest = leaves.ended.digest; done = leaves.ended.done; saves = leaves.ended.saves; over = leaves.ended.over };
     }
     kept_drives source is few (Err stop) leaves = record {
       trace = leaves.trace;
       asks = on (record { source = source; is = is; few = few; led = leaves.from.led_is; lost = leaves.from.lost_is; wish = leaves.from.wish_is; told = leaves.from.told_is; count = leaves.from.count_is; rounds = leaves.rounds });
       closed_is = leaves.stopped.closed_is;
       came = leaves.stopped.came;
+      some = leaves.stopped.some;
       all = λ came. on (record { source = source; is = is; few = few; led = leaves.from.led_is; lost = leaves.from.lost_is; wish = leaves.from.wish_is; told = leaves.from.told_is; count = leaves.from.count_is; rounds = leaves.all came });
       holds = leaves.stopped.holds;
       shown = if_net after leaves.trace stop leaves.stopped.shown;

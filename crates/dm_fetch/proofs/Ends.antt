@@ -119,8 +119,8 @@ module _ {D O : Type 0} (tells : Type 0) (clock : D → Clock) (says : O → Say
     -- an attempt that stopped was ended
     pub tried_by : (end : Ended) → EndsBy left.came tells clock says far counts scene pass new left.trace stop end → TriedBy tells clock says far counts net scene pass new closed before after slices end
     tried_by ended.Complete ends = absurd ends
-    tried_by (ended.Stopped reason) ends = record { trace = left.trace; asks = left.asks; closed_is = left.closed_is; came = left.came; all = left.all; ends = ends_by net scene pass new before after left.trace left.came stop (ended.Stopped reason) left.shown ends }
-    tried_by (ended.Fault fault) ends = record { trace = left.trace; asks = left.asks; closed_is = left.closed_is; came = left.came; all = left.all; ends = ends_by net scene pass new before after left.trace left.came stop (ended.Fault fault) left.shown ends }
+    tried_by (ended.Stopped reason) ends = record { trace = left.trace; asks = left.asks; closed_is = left.closed_is; came = left.came; some = left.some; all = left.all; ends = ends_by net scene pass new before after left.trace left.came stop (ended.Stopped reason) left.shown ends }
+    tried_by (ended.Fault fault) ends = record { trace = left.trace; asks = left.asks; closed_is = left.closed_is; came = left.came; some = left.some; all = left.all; ends = ends_by net scene pass new before after left.trace left.came stop (ended.Fault fault) left.shown ends }
 
   module _ (net : Type 0) (old new : View D O) (was closed : List Closed) (before after : NetFault → ℕ) (id : ItemId) (by : By) (slices at : ℕ) (still : net → closed ≡ was) where
     short_tried : (have wanted : ℕ) → (found : ItemWith old id (StartsShort tells clock says far counts old new by at have wanted))
@@ -130,6 +130,7 @@ module _ {D O : Type 0} (tells : Type 0) (clock : D → Clock) (says : O → Say
       asks = nothing (record { led = refl; lost = refl; wish = refl; told = refl; rounds = refl });
       closed_is = λ t. still t ∙ sym (append-nil was);
       came = false;
+      some = λ never. absurd (false≢true never);
       all = λ never. absurd (false≢true never);
       ends = record { cause = causes.PartShort have wanted; reason_is = refl; saves = []; met = at_desk (inr (record { have = have; wanted = wanted; is = refl; short = found.is.short; untold = refl; none = refl })); over = found.is.over was before };
     }
@@ -141,6 +142,7 @@ module _ {D O : Type 0} (tells : Type 0) (clock : D → Clock) (says : O → Say
       asks = nothing (record { led = refl; lost = refl; wish = refl; told = refl; rounds = refl });
       closed_is = λ t. still t ∙ sym (append-nil was);
       came = false;
+      some = λ never. absurd (false≢true never);
       all = λ never. absurd (false≢true never);
       ends = leaves_ends (scene_of old found.item by at was before) new (untold [] [] 0) (Met net (scene_of old found.item by at was before) (pass_of found.item) new before after (untold [] [] 0)) fault (found.is.ends was before);
     }

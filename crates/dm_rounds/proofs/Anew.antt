@@ -189,6 +189,7 @@ module _ {D O : Type 0} (tells : Type 0) (clock : D → Clock) (says : O → Say
         stopped = record {
           closed_is = λ n. by_stop (after ≡ start ++ since) all_since stop (stopped n) ∙ ap (λ (l : List Closed). l ++ since) (still n);
           came = false;
+          some = λ never. absurd (false≢true never);
           holds = untold_holds desk since stop own live;
           shown = none_shown stop counted stopped;
         };
@@ -279,6 +280,7 @@ module _ {D O : Type 0} (tells : Type 0) (clock : D → Clock) (says : O → Say
         stopped = record {
           closed_is = λ n. closes n ∙ ap (λ (l : List Closed). l ++ c ∷ []) (has.closed_is n) ∙ append_assoc scene.closed led (c ∷ []) ∙ sym (any_closed (c ∷ []) none.trace none.before);
           came = false;
+          some = λ never. absurd (false≢true never);
           holds = none.holds;
           shown = no_shown stop none.apart;
         };
@@ -300,7 +302,7 @@ fresh_longer tells clock says far counts net scene pass old present closed befor
   fresh = leaves.fresh;
   replied = leaves.replied;
   rounds = leaves.rounds;
-  stopped = record { closed_is = leaves.stopped.closed_is; came = leaves.stopped.came; holds = leaves.stopped.holds; shown = shown_longer net before between now scene leaves.trace stop earlier leaves.stopped.shown };
+  stopped = record { closed_is = leaves.stopped.closed_is; came = leaves.stopped.came; some = leaves.stopped.some; holds = leaves.stopped.holds; shown = shown_longer net before between now scene leaves.trace stop earlier leaves.stopped.shown };
   all = leaves.all;
 }
 

@@ -96,7 +96,7 @@ module _ {D O : Type 0} (tells : Type 0) (clock : D → Clock) (says : O → Say
       from = from;
       rounds = read_cut net first trace.rounds rounds;
       served = served;
-      stopped = record { closed_is = none.still; came = false; holds = none.holds; shown = used_up used stop none.why };
+      stopped = record { closed_is = none.still; came = false; some = λ never. absurd (false≢true never); holds = none.holds; shown = used_up used stop none.why };
       all = λ never. absurd (false≢true never);
     }
 
@@ -157,6 +157,7 @@ module _ {D O : Type 0} (tells : Type 0) (clock : D → Clock) (says : O → Say
         stopped = record {
           closed_is = λ n. lost.round.round.closed n ∙ closed_more scene.closed trace.led (wires_of trace.rounds) (map (λ (c : Carried). c.connection) lost_wires) trace.lost lost_none;
           came = false;
+          some = λ never. absurd (false≢true never);
           holds = holds_wired tells clock says far counts scene false (next_round scene trace asking) lost_wires trace going.pass desk stop lost.holds;
           shown = lost_shown stop refl;
         };
@@ -197,7 +198,7 @@ module _ {D O : Type 0} (tells : Type 0) (clock : D → Clock) (says : O → Say
     from = from_then older mid stopped.trace from stopped.from;
     rounds = stopped.rounds;
     served = stopped.served;
-    stopped = record { closed_is = stopped.stopped.closed_is; came = stopped.stopped.came; holds = stopped.stopped.holds; shown = shown_longer net before between now scene stopped.trace stop earlier stopped.stopped.shown };
+    stopped = record { closed_is = stopped.stopped.closed_is; came = stopped.stopped.came; some = stopped.stopped.some; holds = stopped.stopped.holds; shown = shown_longer net before between now scene stopped.trace stop earlier stopped.stopped.shown };
     all = stopped.all;
   }
 

@@ -143,6 +143,7 @@ module _ {D O : Type 0} (tells : Type 0) (clock : D → Clock) (says : O → Say
       rounds = read_rounds;
       served = read_served;
       ended = record {
+        some = λ none. absurd (let e = none in cc);
         closed_is = read_closed;
         digest = left.digest;
         done = record { desk = desk; live = read_live; full = left.full; stated = left.stated; sum = left.sum };
@@ -157,7 +158,7 @@ module _ {D O : Type 0} (tells : Type 0) (clock : D → Clock) (says : O → Say
       from = read_from;
       rounds = read_cut net first read_trace.rounds read_rounds;
       served = read_served;
-      stopped = record { closed_is = read_closed; came = true; holds = stop_held after stop left; shown = none_shown before now after stop left };
+      stopped = record { closed_is = read_closed; came = true; some = λ came none. absurd (let e = none in cc); holds = stop_held after stop left; shown = none_shown before now after stop left };
       all = λ came. read_rounds;
     }
 
@@ -183,6 +184,7 @@ module _ {D O : Type 0} (tells : Type 0) (clock : D → Clock) (says : O → Say
         stopped = record {
           closed_is = closed_of_trace stopped.saves stopped.after stopped.round.wires closed stopped.round.closed;
           came = false;
+          some = λ never. absurd (false≢true never);
           holds = holds_wired tells clock says far counts scene false (live_round asking cover stopped.after) stopped.round.wires (with_saves older stopped.saves) going.pass desk stop stopped.holds;
           shown = content_shown before now trace stopped.round.wires stopped.after stop counted stopped.shown refl;
         };

@@ -4,7 +4,7 @@ use Rattle.dm_fetch.proofs.Ends.{tried_by}
 use Rattle.dm_fetch.proofs.attempting.end_as.Goals as goal
 
 pub returns-in-Ok : goal.returns-in-Ok
-returns-in-Ok g c scene before slices leaves = let left = rw c.in-Ok.is at leaves in record { trace = left.trace; asks = left.asks; closed_is = left.closed_is; came = true; all = λ came. left.asks; ends = left.finished }
+returns-in-Ok g c scene before slices leaves = let left = rw c.in-Ok.is at leaves in record { trace = left.trace; asks = left.asks; closed_is = left.closed_is; came = true; some = λ came. left.finished.some; all = λ came. left.asks; ends = left.finished }
 
 pub returns-in-Err : goal.returns-in-Err
 returns-in-Err g c scene before slices leaves =
