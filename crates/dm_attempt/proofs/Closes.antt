@@ -1,5 +1,5 @@
 -- How the driver ends an attempt.
-use Rattle.std.proofs.Common.{◌≡◌, ◌≢◌, ◌⊎◌, inl, inr, ℕ, List, [], ◌∷◌, ◌++◌, Result, Ok, Err, refl, sym, ◌∙◌, ap, subst}
+use Rattle.std.proofs.Common.{◌≡◌, ◌≢◌, ◌⊎◌, inl, inr, ℕ, Bool, IsTrue, List, [], ◌∷◌, ◌++◌, Result, Ok, Err, refl, sym, ◌∙◌, ap, subst}
 use Rattle.std.specs.Prelude.{IfSome}
 use Rattle.std.proofs.lemmas.List.{append-nil}
 use Rattle.dm_types.specs.Faults.{Rose}
@@ -58,21 +58,22 @@ by_journal P journal faults.NoMemory is = absurd is
 by_journal P journal (faults.Damaged place) is = absurd is
 
 module _ {D O : Type 0} (tells : Type 0) (clock : D → Clock) (says : O → Says) (far : D → ℕ) (counts : D → DiskKind → ℕ) (scene : Scene D O) (pass : Pass) where
-  shows_wider : (present : View D O) (trace : Trace) (P : Cause → Type 0) (close : Close) → ShowsClose tells clock says far counts scene present trace NoCause close → ShowsClose tells clock says far counts scene present trace P close
-  shows_wider present trace P (Broken cause) (inl memory) = inl memory
-  shows_wider present trace P (Broken cause) (inr (inl none)) = absurd none
-  shows_wider present trace P (Broken cause) (inr (inr shown)) = inr (inr shown)
-  shows_wider present trace P (Done total digest) shown = shown
+  shows_wider : (was came : Bool) → (IsTrue was → IsTrue came) → (present : View D O) (trace : Trace) (P : Cause → Type 0) (close : Close) → ShowsClose was tells clock says far counts scene present trace NoCause close → ShowsClose came tells clock says far counts scene present trace P close
+  shows_wider was came up present trace P (Broken cause) (inl memory) = inl memory
+  shows_wider was came up present trace P (Broken cause) (inr (inl none)) = absurd none
+  shows_wider was came up present trace P (Broken cause) (inr (inr shown)) = inr (inr shown)
+  shows_wider was came up present trace P (Done total digest) shown = (up shown.0, shown.1, shown.2)
 
-  fell_wider : (present : View D O) (trace : Trace) (P : Cause → Type 0) → DeskFell tells clock says far counts scene present trace NoCause → DeskFell tells clock says far counts scene present trace P
-  fell_wider present trace P fell = record {
+  fell_wider : (was came : Bool) → (IsTrue was → IsTrue came) → (present : View D O) (trace : Trace) (P : Cause → Type 0) → DeskFell was tells clock says far counts scene present trace NoCause → DeskFell came tells clock says far counts scene present trace P
+  fell_wider was came up present trace P fell = record {
     after = fell.after;
     led_is = fell.led_is;
     lost_is = fell.lost_is;
     rounds_are = fell.rounds_are;
+    told_is = fell.told_is;
     close = fell.close;
     seen = fell.seen;
-    shows = shows_wider present (with_saves trace fell.seen) P fell.close fell.shows;
+    shows = shows_wider was came up present (with_saves trace fell.seen) P fell.close fell.shows;
     recorded = fell.recorded;
     failed = fell.failed;
     rest = fell.rest;
@@ -81,27 +82,28 @@ module _ {D O : Type 0} (tells : Type 0) (clock : D → Clock) (says : O → Say
     planned = fell.planned;
   }
 
-  pub fault_ends : (present : View D O) (trace : Trace) (P : Cause → Type 0) (fault : DeskFault) → FaultLeaves tells clock says far counts scene present trace fault → FaultEnds tells clock says far counts scene present trace P fault
-  fault_ends present trace P faults.Broken leaves = leaves
-  fault_ends present trace P (faults.NoItem id) leaves = leaves
-  fault_ends present trace P (faults.Stale attempt round) leaves = leaves
-  fault_ends present trace P (faults.WrongState phase) leaves = leaves
-  fault_ends present trace P (faults.NotNext place) leaves = leaves
-  fault_ends present trace P (faults.PastEnd end) leaves = leaves
-  fault_ends present trace P (faults.CheckpointDue bytes) leaves = leaves
-  fault_ends present trace P (faults.ItemsFull count) leaves = leaves
-  fault_ends present trace P (faults.WordTaken id) leaves = leaves
-  fault_ends present trace P (faults.File kind) leaves = leaves
-  fault_ends present trace P (faults.Journal kind) leaves = (leaves.0, fell_wider present trace P leaves.1)
-  fault_ends present trace P faults.NoMemory leaves = absurd leaves
-  fault_ends present trace P (faults.Damaged place) leaves = leaves
+  pub fault_ends : (was came : Bool) → (IsTrue was → IsTrue came) → (present : View D O) (trace : Trace) (P : Cause → Type 0) (fault : DeskFault) → FaultLeaves was tells clock says far counts scene present trace fault → FaultEnds came tells clock says far counts scene present trace P fault
+  fault_ends was came up present trace P faults.Broken leaves = leaves
+  fault_ends was came up present trace P (faults.NoItem id) leaves = leaves
+  fault_ends was came up present trace P (faults.Stale attempt round) leaves = leaves
+  fault_ends was came up present trace P (faults.WrongState phase) leaves = leaves
+  fault_ends was came up present trace P (faults.NotNext place) leaves = leaves
+  fault_ends was came up present trace P (faults.PastEnd end) leaves = leaves
+  fault_ends was came up present trace P (faults.CheckpointDue bytes) leaves = leaves
+  fault_ends was came up present trace P (faults.ItemsFull count) leaves = leaves
+  fault_ends was came up present trace P (faults.WordTaken id) leaves = leaves
+  fault_ends was came up present trace P (faults.File kind) leaves = leaves
+  fault_ends was came up present trace P (faults.Journal kind) leaves = (leaves.0, fell_wider was came up present trace P leaves.1)
+  fault_ends was came up present trace P faults.NoMemory leaves = absurd leaves
+  fault_ends was came up present trace P (faults.Damaged place) leaves = leaves
 
-  fell_later : (present : View D O) (trace : Trace) (saves : List (List Slice)) (P : Cause → Type 0) → DeskFell tells clock says far counts scene present (with_saves trace saves) P → DeskFell tells clock says far counts scene present trace P
-  fell_later present trace saves P fell = record {
+  fell_later : (came : Bool) (present : View D O) (trace : Trace) (saves : List (List Slice)) (P : Cause → Type 0) → DeskFell came tells clock says far counts scene present (with_saves trace saves) P → DeskFell came tells clock says far counts scene present trace P
+  fell_later came present trace saves P fell = record {
     after = fell.after;
     led_is = fell.led_is;
     lost_is = fell.lost_is;
     rounds_are = fell.rounds_are;
+    told_is = fell.told_is;
     close = fell.close;
     seen = fell.seen;
     shows = fell.shows;
@@ -113,73 +115,73 @@ module _ {D O : Type 0} (tells : Type 0) (clock : D → Clock) (says : O → Say
     planned = fell.planned;
   }
 
-  fault_later : (present : View D O) (trace : Trace) (saves : List (List Slice)) (P : Cause → Type 0) (fault : DeskFault) → FaultEnds tells clock says far counts scene present (with_saves trace saves) P fault → FaultEnds tells clock says far counts scene present trace P fault
-  fault_later present trace saves P faults.Broken ends = ends
-  fault_later present trace saves P (faults.NoItem id) ends = ends
-  fault_later present trace saves P (faults.Stale attempt round) ends = ends
-  fault_later present trace saves P (faults.WrongState phase) ends = ends
-  fault_later present trace saves P (faults.NotNext place) ends = ends
-  fault_later present trace saves P (faults.PastEnd end) ends = ends
-  fault_later present trace saves P (faults.CheckpointDue bytes) ends = ends
-  fault_later present trace saves P (faults.ItemsFull count) ends = ends
-  fault_later present trace saves P (faults.WordTaken id) ends = ends
-  fault_later present trace saves P (faults.File kind) ends = ends
-  fault_later present trace saves P (faults.Journal kind) ends = (ends.0, fell_later present trace saves P ends.1)
-  fault_later present trace saves P faults.NoMemory ends = ends
-  fault_later present trace saves P (faults.Damaged place) ends = ends
+  fault_later : (came : Bool) (present : View D O) (trace : Trace) (saves : List (List Slice)) (P : Cause → Type 0) (fault : DeskFault) → FaultEnds came tells clock says far counts scene present (with_saves trace saves) P fault → FaultEnds came tells clock says far counts scene present trace P fault
+  fault_later came present trace saves P faults.Broken ends = ends
+  fault_later came present trace saves P (faults.NoItem id) ends = ends
+  fault_later came present trace saves P (faults.Stale attempt round) ends = ends
+  fault_later came present trace saves P (faults.WrongState phase) ends = ends
+  fault_later came present trace saves P (faults.NotNext place) ends = ends
+  fault_later came present trace saves P (faults.PastEnd end) ends = ends
+  fault_later came present trace saves P (faults.CheckpointDue bytes) ends = ends
+  fault_later came present trace saves P (faults.ItemsFull count) ends = ends
+  fault_later came present trace saves P (faults.WordTaken id) ends = ends
+  fault_later came present trace saves P (faults.File kind) ends = ends
+  fault_later came present trace saves P (faults.Journal kind) ends = (ends.0, fell_later came present trace saves P ends.1)
+  fault_later came present trace saves P faults.NoMemory ends = ends
+  fault_later came present trace saves P (faults.Damaged place) ends = ends
 
-  fault_wider : (present : View D O) (trace : Trace) (P : Cause → Type 0) (fault : DeskFault) → FaultEnds tells clock says far counts scene present trace NoCause fault → FaultEnds tells clock says far counts scene present trace P fault
-  fault_wider present trace P faults.Broken ends = ends
-  fault_wider present trace P (faults.NoItem id) ends = ends
-  fault_wider present trace P (faults.Stale attempt round) ends = ends
-  fault_wider present trace P (faults.WrongState phase) ends = ends
-  fault_wider present trace P (faults.NotNext place) ends = ends
-  fault_wider present trace P (faults.PastEnd end) ends = ends
-  fault_wider present trace P (faults.CheckpointDue bytes) ends = ends
-  fault_wider present trace P (faults.ItemsFull count) ends = ends
-  fault_wider present trace P (faults.WordTaken id) ends = ends
-  fault_wider present trace P (faults.File kind) ends = ends
-  fault_wider present trace P (faults.Journal kind) ends = (ends.0, fell_wider present trace P ends.1)
-  fault_wider present trace P faults.NoMemory ends = ends
-  fault_wider present trace P (faults.Damaged place) ends = ends
+  fault_wider : (came : Bool) (present : View D O) (trace : Trace) (P : Cause → Type 0) (fault : DeskFault) → FaultEnds came tells clock says far counts scene present trace NoCause fault → FaultEnds came tells clock says far counts scene present trace P fault
+  fault_wider came present trace P faults.Broken ends = ends
+  fault_wider came present trace P (faults.NoItem id) ends = ends
+  fault_wider came present trace P (faults.Stale attempt round) ends = ends
+  fault_wider came present trace P (faults.WrongState phase) ends = ends
+  fault_wider came present trace P (faults.NotNext place) ends = ends
+  fault_wider came present trace P (faults.PastEnd end) ends = ends
+  fault_wider came present trace P (faults.CheckpointDue bytes) ends = ends
+  fault_wider came present trace P (faults.ItemsFull count) ends = ends
+  fault_wider came present trace P (faults.WordTaken id) ends = ends
+  fault_wider came present trace P (faults.File kind) ends = ends
+  fault_wider came present trace P (faults.Journal kind) ends = (ends.0, fell_wider came came (λ t. t) present trace P ends.1)
+  fault_wider came present trace P faults.NoMemory ends = ends
+  fault_wider came present trace P (faults.Damaged place) ends = ends
 
   -- what was saved before the end counts too
-  pub ends_later : (present : View D O) (trace : Trace) (saves : List (List Slice)) (cause : Cause) (end : Ended) → EndsBy tells clock says far counts scene pass present (with_saves trace saves) (stops.Broke cause) end
-      → EndsBy tells clock says far counts scene pass present trace (stops.Broke cause) end
-  ends_later present trace saves cause ended.Complete ends = ends
-  ends_later present trace saves cause (ended.Stopped reason) ends = record { cause = ends.cause; reason_is = ends.reason_is; of = ends.of; saves = ends.saves; saved = ends.saved; over = ends.over }
-  ends_later present trace saves cause (ended.Fault fault) ends = fault_later present trace saves (λ c. c ≡ cause) fault ends
+  pub ends_later : (came : Bool) (present : View D O) (trace : Trace) (saves : List (List Slice)) (cause : Cause) (end : Ended) → EndsBy came tells clock says far counts scene pass present (with_saves trace saves) (stops.Broke cause) end
+      → EndsBy came tells clock says far counts scene pass present trace (stops.Broke cause) end
+  ends_later came present trace saves cause ended.Complete ends = ends
+  ends_later came present trace saves cause (ended.Stopped reason) ends = record { cause = ends.cause; reason_is = ends.reason_is; of = ends.of; saves = ends.saves; saved = ends.saved; over = ends.over }
+  ends_later came present trace saves cause (ended.Fault fault) ends = fault_later came present trace saves (λ c. c ≡ cause) fault ends
 
   -- a save that was refused ends it in place of the cause
-  pub ends_refused : (before present : View D O) (trace : Trace) (cause : Cause) (stop : Stop) (end : Ended) → Refused tells clock says far counts scene pass before trace stop
-      → EndsBy tells clock says far counts scene pass present trace stop end → EndsBy tells clock says far counts scene pass present trace (stops.Broke cause) end
-  ends_refused before present trace cause (stops.Broke met) end refused ends = absurd refused
-  ends_refused before present trace cause (stops.Recorded reason) end refused ends = absurd refused
-  ends_refused before present trace cause stops.NoMemory ended.Complete refused ends = ends
-  ends_refused before present trace cause stops.NoMemory (ended.Stopped reason) refused ends = absurd ends.of
-  ends_refused before present trace cause stops.NoMemory (ended.Fault fault) refused ends = fault_wider present trace (λ c. c ≡ cause) fault ends
-  ends_refused before present trace cause (stops.Fault met) ended.Complete refused ends = ends
-  ends_refused before present trace cause (stops.Fault met) (ended.Stopped reason) refused ends = absurd ends.of
-  ends_refused before present trace cause (stops.Fault met) (ended.Fault fault) refused ends = fault_wider present trace (λ c. c ≡ cause) fault ends
+  pub ends_refused : (came : Bool) (before present : View D O) (trace : Trace) (cause : Cause) (stop : Stop) (end : Ended) → Refused tells clock says far counts scene pass before trace stop
+      → EndsBy came tells clock says far counts scene pass present trace stop end → EndsBy came tells clock says far counts scene pass present trace (stops.Broke cause) end
+  ends_refused came before present trace cause (stops.Broke met) end refused ends = absurd refused
+  ends_refused came before present trace cause (stops.Recorded reason) end refused ends = absurd refused
+  ends_refused came before present trace cause stops.NoMemory ended.Complete refused ends = ends
+  ends_refused came before present trace cause stops.NoMemory (ended.Stopped reason) refused ends = absurd ends.of
+  ends_refused came before present trace cause stops.NoMemory (ended.Fault fault) refused ends = fault_wider came present trace (λ c. c ≡ cause) fault ends
+  ends_refused came before present trace cause (stops.Fault met) ended.Complete refused ends = ends
+  ends_refused came before present trace cause (stops.Fault met) (ended.Stopped reason) refused ends = absurd ends.of
+  ends_refused came before present trace cause (stops.Fault met) (ended.Fault fault) refused ends = fault_wider came present trace (λ c. c ≡ cause) fault ends
 
-  pub recorded_ends : (present : View D O) (trace : Trace) (reason : Reason) → RecordedBy tells clock says far counts scene pass present trace reason → EndsBy tells clock says far counts scene pass present trace (stops.Recorded reason) (ended.Stopped reason)
-  recorded_ends present trace reason by = record { cause = by.cause; reason_is = by.reason_is; of = by.met; saves = by.saves; saved = tt; over = by.over }
+  pub recorded_ends : (came : Bool) (present : View D O) (trace : Trace) (reason : Reason) → RecordedBy tells clock says far counts scene pass present trace reason → EndsBy came tells clock says far counts scene pass present trace (stops.Recorded reason) (ended.Stopped reason)
+  recorded_ends came present trace reason by = record { cause = by.cause; reason_is = by.reason_is; of = by.met; saves = by.saves; saved = tt; over = by.over }
 
   module _ (old new : View D O) (call : CallGoes tells clock says far counts IsPart old new) (trace : Trace) (live : LiveDesk tells clock says far counts scene pass old trace) (cause : Cause) where
     pub broke_over : BrokeAnswers old new pass cause (Ok tt) → DeskOver tells clock says far counts scene new trace (Broken cause)
     broke_over answer = over_by tells clock says far counts scene pass old new call trace cause live answer.1
 
-    module _ (P : Cause → Type 0) (shows : ShowsClose tells clock says far counts scene new trace P (Broken cause)) where
-      fell_broke : Fell old new (broke_by pass cause ∷ []) → DeskFell tells clock says far counts scene new trace P
+    module _ (came : Bool) (P : Cause → Type 0) (shows : ShowsClose came tells clock says far counts scene new trace P (Broken cause)) where
+      fell_broke : Fell old new (broke_by pass cause ∷ []) → DeskFell came tells clock says far counts scene new trace P
       fell_broke fell =
           let entry = entries.Broke scene.item.id (reason_of_cause cause) in
-          fell_at tells clock says far counts scene pass old new call P trace trace (Broken cause) (entry ∷ []) [] refl refl refl live live.planned
+          fell_at tells clock says far counts scene pass old new call came P trace trace (Broken cause) (entry ∷ []) [] refl refl refl (inr refl) live live.planned
           (subst (λ (i : ItemId). Fell old new (entries.Broke i (reason_of_cause cause) ∷ [])) (own_id tells clock says far counts scene pass old trace live) fell)
           (append-nil (so_far scene.item.id trace ++ entry ∷ []) ∙ so_closed scene.item.id scene.at trace (Broken cause)) shows
 
-      pub broke_fault : (fault : DeskFault) → BrokeAnswers old new pass cause (Err fault) → IfSome (desk_kind fault) (λ kind. Rose (counts old.disk kind) (counts new.disk kind)) → FaultEnds tells clock says far counts scene new trace P fault
+      pub broke_fault : (fault : DeskFault) → BrokeAnswers old new pass cause (Err fault) → IfSome (desk_kind fault) (λ kind. Rose (counts old.disk kind) (counts new.disk kind)) → FaultEnds came tells clock says far counts scene new trace P fault
       broke_fault fault answer rose =
-          by_journal (λ (f : DeskFault). BrokeAnswers old new pass cause (Err f) → IfSome (desk_kind f) (λ kind. Rose (counts old.disk kind) (counts new.disk kind)) → FaultEnds tells clock says far counts scene new trace P f)
+          by_journal (λ (f : DeskFault). BrokeAnswers old new pass cause (Err f) → IfSome (desk_kind f) (λ kind. Rose (counts old.disk kind) (counts new.disk kind)) → FaultEnds came tells clock says far counts scene new trace P f)
           (λ kind found up. (rose_later (counts scene.start.disk kind) (counts old.disk kind) (counts new.disk kind) (live.goes.later kind) up, fell_broke found.1))
           fault (hard_broke old new pass cause fault live.goes.went.broken_is (weaker old pass.id pass.attempt (IsTraced scene trace) IsUnderWay (λ item life is. tt) live.runs) answer) answer rose
 

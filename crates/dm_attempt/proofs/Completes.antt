@@ -171,7 +171,7 @@ module _ {D O : Type 0} (tells : Type 0) (clock : D → Clock) (says : O → Say
 
   -- the journal failed at one of these entries
   fell_closing : (front : History) → Saved front → (behind more : History) (close : Close) → behind ++ more ≡ close_entries id scene.at close → Owned behind → Fell old new (front ++ behind)
-      → ShowsClose tells clock says far counts scene new trace NoCause close → DeskFell tells clock says far counts scene new trace NoCause
+      → ShowsClose true tells clock says far counts scene new trace NoCause close → DeskFell true tells clock says far counts scene new trace NoCause
   fell_closing front (saved saves is planned front_own) behind more close closes own fell shows =
       let after = with_saves trace saves in
       let owned : Owned fell.recorded = own_front id.0 fell.recorded (fell.entry ∷ fell.rest) (subst Owned fell.tries_are (own_both id.0 front behind front_own own)) in
@@ -184,6 +184,7 @@ module _ {D O : Type 0} (tells : Type 0) (clock : D → Clock) (says : O → Say
         led_is = refl;
         lost_is = refl;
         rounds_are = refl;
+        told_is = inr refl;
         close = close;
         seen = trace.saves;
         shows = shows;
@@ -215,7 +216,7 @@ module _ {D O : Type 0} (tells : Type 0) (clock : D → Clock) (says : O → Say
     done_own digest = subst Owned (sym (done_is digest)) (λ v. refl, (λ v. refl, tt))
 
     abbrev Shows : Close → Type 0
-    Shows close = ShowsClose tells clock says far counts scene new trace NoCause close
+    Shows close = ShowsClose true tells clock says far counts scene new trace NoCause close
 
     abbrev Met : Cause → Type 0
     Met cause = DeskMet tells clock says far counts scene pass trace cause
@@ -255,20 +256,20 @@ module _ {D O : Type 0} (tells : Type 0) (clock : D → Clock) (says : O → Say
     shows_met cause met = inr (inr (inr (inl (subst (λ (p : Pass). DeskMet tells clock says far counts scene p trace cause) live.pass_is met))))
 
     shows_done : (digest : List ℕ) → DeskDone tells clock says far counts scene pass trace digest → Shows (Done (total_by scene trace) digest)
-    shows_done digest met = (refl, subst (λ (p : Pass). DeskDone tells clock says far counts scene p trace digest) live.pass_is met)
+    shows_done digest met = (refl, refl, subst (λ (p : Pass). DeskDone tells clock says far counts scene p trace digest) live.pass_is met)
 
     fell_broke : (front : History) → Saved front → (behind : History) (cause : Cause) → behind ≡ entries.Broke found.item.id (reason_of_cause cause) ∷ [] → Fell old new (front ++ behind) → Shows (Broken cause)
-        → DeskFell tells clock says far counts scene new trace NoCause
+        → DeskFell true tells clock says far counts scene new trace NoCause
     fell_broke front front_saved behind cause is fell shows =
         fell_closing front front_saved behind [] (Broken cause) (append-nil behind ∙ is ∙ broke_is cause) (subst Owned (sym is) (broke_own cause)) fell shows
 
-    fell_file : (front : History) → Saved front → (behind : History) → FileBroke (counts old.disk) (counts new.disk) found.item.id behind → Fell old new (front ++ behind) → DeskFell tells clock says far counts scene new trace NoCause
+    fell_file : (front : History) → Saved front → (behind : History) → FileBroke (counts old.disk) (counts new.disk) found.item.id behind → Fell old new (front ++ behind) → DeskFell true tells clock says far counts scene new trace NoCause
     fell_file front front_saved behind file fell =
         fell_broke front front_saved behind (causes.File file.is.kind) (file.one ∙ ap (λ (e : Entry). e ∷ []) file.is.is) fell
         (inr (inr (inl (record { kind = file.is.kind; is = refl; rose = rose_later (counts scene.start.disk file.is.kind) (counts old.disk file.is.kind) (counts new.disk file.is.kind) (live.goes.later file.is.kind) file.is.rose }))))
 
     module _ (may : MayFinish found.item found.life) where
-      tail_fell : (behind : History) → FinishTail tells clock counts old.disk new.disk at found.item found.life behind → Fell old new (saving found.item found.life ++ behind) → DeskFell tells clock says far counts scene new trace NoCause
+      tail_fell : (behind : History) → FinishTail tells clock counts old.disk new.disk at found.item found.life behind → Fell old new (saving found.item found.life ++ behind) → DeskFell true tells clock says far counts scene new trace NoCause
       tail_fell behind (inl done) fell =
           fell_closing (saving found.item found.life) (saves_of P found) behind [] (Done (total_by scene trace) done.digest) (append-nil behind ∙ done.is ∙ done_is done.digest) (subst Owned (sym done.is) (done_own done.digest)) fell
           (shows_done done.digest (done_met may done.digest done.confirmed))
@@ -280,13 +281,13 @@ module _ {D O : Type 0} (tells : Type 0) (clock : D → Clock) (says : O → Say
           (shows_met (causes.PartShort early.have early.wanted) (early_met may early.have early.wanted early.early))
       tail_fell behind (inr (inr (inr file))) fell = fell_file (saving found.item found.life) (saves_of P found) behind file fell
 
-      naming_fell : FellNaming tells clock old new found.item found.life → DeskFell tells clock says far counts scene new trace NoCause
+      naming_fell : FellNaming tells clock old new found.item found.life → DeskFell true tells clock says far counts scene new trace NoCause
       naming_fell naming = by (saves_of P found)
         where
           first : History
           first = entries.Finishing found.item.id (total_of found.item found.life) ∷ []
 
-          by : Saved (saving found.item found.life) → DeskFell tells clock says far counts scene new trace NoCause
+          by : Saved (saving found.item found.life) → DeskFell true tells clock says far counts scene new trace NoCause
           by (saved saves is planned front_own) =
               let after = with_saves trace saves in
               let front = saving found.item found.life in
@@ -304,6 +305,7 @@ module _ {D O : Type 0} (tells : Type 0) (clock : D → Clock) (says : O → Say
                 led_is = refl;
                 lost_is = refl;
                 rounds_are = refl;
+                told_is = inr refl;
                 close = Done (total_by scene trace) naming.digest;
                 seen = trace.saves;
                 shows = shows_done naming.digest (done_met may naming.digest naming.confirmed);
@@ -315,7 +317,7 @@ module _ {D O : Type 0} (tells : Type 0) (clock : D → Clock) (says : O → Say
                 planned = planned;
               }
 
-      journal_fell : FinishFell tells clock counts old new at found.item found.life → DeskFell tells clock says far counts scene new trace NoCause
+      journal_fell : FinishFell tells clock counts old new at found.item found.life → DeskFell true tells clock says far counts scene new trace NoCause
       journal_fell (inl fell) =
           fell_closing (saving found.item found.life) (saves_of P found) [] (close_entries id scene.at (Broken causes.Memory)) (Broken causes.Memory) refl tt (subst (Fell old new) (sym (append-nil (saving found.item found.life))) fell) (inl refl)
       journal_fell (inr (inl file)) = fell_file [] bare_saved file.1.behind file.1.is file.1.fell
@@ -377,7 +379,7 @@ module _ {D O : Type 0} (tells : Type 0) (clock : D → Clock) (says : O → Say
     finish_hole (faults.Journal kind) is answer = absurd (none-some (stops.Fault (faults.Journal kind)) (sym is))
     finish_hole (faults.Damaged place) is answer = absurd (none-some (stops.Fault (faults.Damaged place)) (sym is))
 
-    left : (fault : DeskFault) (leaves : FaultLeaves tells clock says far counts scene new trace fault) (stop : Stop) → Some (stops.Fault fault) ≡ Some stop → FinishLeaves tells clock says far counts scene pass old new trace (Err stop)
+    left : (fault : DeskFault) (leaves : FaultLeaves true tells clock says far counts scene new trace fault) (stop : Stop) → Some (stops.Fault fault) ≡ Some stop → FinishLeaves tells clock says far counts scene pass old new trace (Err stop)
     left fault leaves stop is = subst (λ (s : Stop). FinishLeaves tells clock says far counts scene pass old new trace (Err s)) (same_Some (stops.Fault fault) stop is) leaves
 
     since : (kind : DiskKind) → Rose (counts old.disk kind) (counts new.disk kind) → Rose (counts scene.start.disk kind) (counts new.disk kind)

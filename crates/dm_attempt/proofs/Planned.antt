@@ -255,21 +255,21 @@ module _ {D O : Type 0} (tells : Type 0) (clock : D → Clock) (says : O → Say
       },
     )
 
-    fell_naming : FellWith old new [] (DescribeTries tells clock counts old new pass told) → DeskFell tells clock says far counts scene new mine NoCause
+    fell_naming : FellWith old new [] (DescribeTries tells clock counts old new pass told) → DeskFell false tells clock says far counts scene new mine NoCause
     fell_naming fell = by fell.is
       where
-        by : DescribeTries tells clock counts old new pass told fell.behind → DeskFell tells clock says far counts scene new mine NoCause
+        by : DescribeTries tells clock counts old new pass told fell.behind → DeskFell false tells clock says far counts scene new mine NoCause
         by (inl gives) =
             let name = gives.is.is.name in
             let entry = entries.Described scene.item.id told.key address.text told.total name told.modified in
             let tries : fell.behind ≡ entry ∷ [] = gives.one ∙ ap (λ (e : Entry). e ∷ []) (gives.is.is.is ∙ entry_is name) in
-            fell_at tells clock says far counts scene pass old new call NoCause mine (told_with led lost count told.wish (tale_of head address told name)) (Broken causes.Memory) (entry ∷ []) (close_entries scene.item.id scene.at (Broken causes.Memory)) refl refl refl live
+            fell_at tells clock says far counts scene pass old new call false NoCause mine (told_with led lost count told.wish (tale_of head address told name)) (Broken causes.Memory) (entry ∷ []) (close_entries scene.item.id scene.at (Broken causes.Memory)) refl refl refl (inl refl) live
             (record { saves = tt; rounds = tt; placed = tt }) (subst (Fell old new) tries fell.fell) refl (inl refl)
         by (inr (inl none)) =
             let same = own_id tells clock says far counts scene pass old mine live in
             let entry = entries.Broke scene.item.id reasons.FileFailed in
             let tries : fell.behind ≡ entry ∷ [] = none.one ∙ ap (λ (e : Entry). e ∷ []) (none.is.is.is ∙ ap (λ (i : ItemId). entries.Broke i reasons.FileFailed) same) in
-            fell_at tells clock says far counts scene pass old new call NoCause mine mine (Broken causes.NamesTaken) (entry ∷ []) [] refl refl refl live live.planned (subst (Fell old new) tries fell.fell) refl
+            fell_at tells clock says far counts scene pass old new call false NoCause mine mine (Broken causes.NamesTaken) (entry ∷ []) [] refl refl refl (inr refl) live live.planned (subst (Fell old new) tries fell.fell) refl
             (inr (inr (inr (inl (subst (λ (p : Pass). DeskMet tells clock says far counts scene p mine causes.NamesTaken) live.pass_is (none_met (record { listed = none.is.listed; lists = none.is.lists; is = none.is.is.all })))))))
         by (inr (inr file)) = fell_file tells clock says far counts scene pass old new call mine live (record { behind = fell.behind; is = file; fell = fell.fell })
 

@@ -154,9 +154,9 @@ module _ {D O : Type 0} (tells : Type 0) (clock : D → Clock) (says : O → Say
         }
 
     -- the journal failed at one of these entries, which an attempt that goes on and closes so has
-    pub fell_at : (P : Cause → Type 0) (trace after : Trace) (close : Close) (tries more : History) → after.led ≡ trace.led → after.lost ≡ trace.lost → after.rounds ≡ trace.rounds → Live old trace → IsPlanned scene after → Fell old new tries
-        → (so_far id trace ++ tries) ++ more ≡ entries_behind id scene.at after close → ShowsClose tells clock says far counts scene new trace P close → DeskFell tells clock says far counts scene new trace P
-    fell_at P trace after close tries more led lost rounds live planned fell is shows =
+    pub fell_at : (came : Bool) (P : Cause → Type 0) (trace after : Trace) (close : Close) (tries more : History) → after.led ≡ trace.led → after.lost ≡ trace.lost → after.rounds ≡ trace.rounds → (trace.told ≡ None) ⊎ (after.told ≡ trace.told) → Live old trace → IsPlanned scene after → Fell old new tries
+        → (so_far id trace ++ tries) ++ more ≡ entries_behind id scene.at after close → ShowsClose came tells clock says far counts scene new trace P close → DeskFell came tells clock says far counts scene new trace P
+    fell_at came P trace after close tries more led lost rounds told live planned fell is shows =
         let before = so_far id trace in
         let parts : head ++ ((before ++ (fell.recorded ++ fell.entry ∷ fell.rest)) ++ more) ≡ (((head ++ before) ++ fell.recorded) ++ fell.entry ∷ []) ++ (fell.rest ++ more) =
         simp append_assoc in
@@ -165,6 +165,7 @@ module _ {D O : Type 0} (tells : Type 0) (clock : D → Clock) (says : O → Say
           led_is = led;
           lost_is = lost;
           rounds_are = rounds;
+          told_is = told;
           close = close;
           seen = trace.saves;
           shows = shows;
@@ -178,25 +179,25 @@ module _ {D O : Type 0} (tells : Type 0) (clock : D → Clock) (says : O → Say
         }
 
     -- a call on the files failed
-    pub file_shows : (trace : Trace) → Live old trace → (kind : DiskKind) → Rose (counts old.disk kind) (counts new.disk kind) → ShowsClose tells clock says far counts scene new trace NoCause (Broken (causes.File kind))
+    pub file_shows : (trace : Trace) → Live old trace → (kind : DiskKind) → Rose (counts old.disk kind) (counts new.disk kind) → ShowsClose false tells clock says far counts scene new trace NoCause (Broken (causes.File kind))
     file_shows trace live kind rose = inr (inr (inl (record { kind = kind; is = refl; rose = rose_later (counts scene.start.disk kind) (counts old.disk kind) (counts new.disk kind) (live.goes.later kind) rose })))
 
     -- the same, of the interruption by a call on the files that failed
-    pub fell_file : (trace : Trace) → Live old trace → FellWith old new [] (FileBroke (counts old.disk) (counts new.disk) pass.id) → DeskFell tells clock says far counts scene new trace NoCause
+    pub fell_file : (trace : Trace) → Live old trace → FellWith old new [] (FileBroke (counts old.disk) (counts new.disk) pass.id) → DeskFell false tells clock says far counts scene new trace NoCause
     fell_file trace live fell =
         let same = own_id old trace live in
         let cause = causes.File fell.is.is.kind in
         let entry : fell.is.entry ≡ entries.Broke id (reason_of_file fell.is.is.kind) = fell.is.is.is ∙ ap (λ (i : ItemId). entries.Broke i (reason_of_file fell.is.is.kind)) same in
         let tries : fell.behind ≡ entries.Broke id (reason_of_file fell.is.is.kind) ∷ [] = fell.is.one ∙ ap (λ (e : Entry). e ∷ []) entry in
-        fell_at NoCause trace trace (Broken cause) (entries.Broke id (reason_of_file fell.is.is.kind) ∷ []) [] refl refl refl live live.planned (subst (Fell old new) tries fell.fell)
+        fell_at false NoCause trace trace (Broken cause) (entries.Broke id (reason_of_file fell.is.is.kind) ∷ []) [] refl refl refl (inr refl) live live.planned (subst (Fell old new) tries fell.fell)
         (append-nil (so_far id trace ++ entries.Broke id (reason_of_file fell.is.is.kind) ∷ []) ∙ so_closed id scene.at trace (Broken cause)) (file_shows trace live fell.is.is.kind fell.is.is.rose)
 
     pub file_leaves : (trace : Trace) (kind : DiskKind) → Live old trace → Recorded old new (entries.Broke pass.id (reason_of_file kind) ∷ []) → Rose (counts old.disk kind) (counts new.disk kind)
-        → FaultLeaves tells clock says far counts scene new trace (faults.File kind)
+        → FaultLeaves false tells clock says far counts scene new trace (faults.File kind)
     file_leaves trace kind live recorded rose = (rose_later (counts scene.start.disk kind) (counts old.disk kind) (counts new.disk kind) (live.goes.later kind) rose, (trace.saves, over_by trace (causes.File kind) live recorded))
 
-    pub journal_leaves : (trace : Trace) (kind : DiskKind) → Live old trace → DeskFell tells clock says far counts scene new trace NoCause → Rose (counts old.disk kind) (counts new.disk kind)
-        → FaultLeaves tells clock says far counts scene new trace (faults.Journal kind)
+    pub journal_leaves : (trace : Trace) (kind : DiskKind) → Live old trace → DeskFell false tells clock says far counts scene new trace NoCause → Rose (counts old.disk kind) (counts new.disk kind)
+        → FaultLeaves false tells clock says far counts scene new trace (faults.Journal kind)
     journal_leaves trace kind live fell rose = (rose_later (counts scene.start.disk kind) (counts old.disk kind) (counts new.disk kind) (live.goes.later kind) rose, fell)
 
     saved_runs : (trace : Trace) (live : Live old trace) → Recorded old new (entries.Progress id (kept_now old trace live) ∷ []) → RunsWith new pass.id pass.attempt (IsTraced scene (longer old trace live))
@@ -241,15 +242,15 @@ module _ {D O : Type 0} (tells : Type 0) (clock : D → Clock) (says : O → Say
         ]
 
     -- the journal failed while something was saved
-    pub fell_saving : (trace : Trace) → Live old trace → RunsWith old pass.id pass.attempt (FallsSaving (counts old.disk) (counts new.disk) old new) → DeskFell tells clock says far counts scene new trace NoCause
+    pub fell_saving : (trace : Trace) → Live old trace → RunsWith old pass.id pass.attempt (FallsSaving (counts old.disk) (counts new.disk) old new) → DeskFell false tells clock says far counts scene new trace NoCause
     fell_saving trace live found = by found.is.fell
       where
         test : (found.life.unsaved == 0) ≡ false
         test = elim (eqb_tells found.life.unsaved 0) [ inl none ↦ absurd (let some = found.is.unsaved in omega (arith, some, none.1)) | inr some ↦ some.0 ]
 
-        by : Fell old new (saving found.item found.life) ⊎ FellWith old new [] (FileBroke (counts old.disk) (counts new.disk) found.item.id) → DeskFell tells clock says far counts scene new trace NoCause
+        by : Fell old new (saving found.item found.life) ⊎ FellWith old new [] (FileBroke (counts old.disk) (counts new.disk) found.item.id) → DeskFell false tells clock says far counts scene new trace NoCause
         by (inl fell) =
-            fell_at NoCause trace (longer old trace live) (Broken causes.Memory) (entries.Progress id (kept_now old trace live) ∷ []) (close_entries id scene.at (Broken causes.Memory)) refl refl refl live (kept_planned old trace live)
+            fell_at false NoCause trace (longer old trace live) (Broken causes.Memory) (entries.Progress id (kept_now old trace live) ∷ []) (close_entries id scene.at (Broken causes.Memory)) refl refl refl (inr refl) live (kept_planned old trace live)
             (subst (Fell old new) (saved_entry old trace live (FallsSaving (counts old.disk) (counts new.disk) old new) found test) fell)
             (ap (λ (h : History). h ++ close_entries id scene.at (Broken causes.Memory)) (sym (so_saved id trace (kept_now old trace live))) ∙ so_closed id scene.at (longer old trace live) (Broken causes.Memory)) (inl refl)
         by (inr fell) =

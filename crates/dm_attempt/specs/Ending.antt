@@ -1,5 +1,5 @@
 -- How an attempt ends at the desk.
-use Rattle.std.specs.Prelude.{◌≡◌, ◌⊎◌, ℕ, List, Option, Some, None, Result}
+use Rattle.std.specs.Prelude.{◌≡◌, ◌⊎◌, ℕ, Bool, List, Option, Some, None, Result}
 use Rattle.dm_types.specs.Faults.{Rose}
 use Rattle.dm_types.specs.declared.item.Item.{Item}
 use Rattle.dm_types.specs.declared.kinds.DiskKind.{DiskKind}
@@ -56,12 +56,12 @@ pub record RecordedBy {D O : Type 0} (tells : Type 0) (clock : D → Clock) (say
   pub saves : List (List Slice)
   pub over : DeskOver tells clock says far counts scene present (with_saves trace saves) (Broken cause)
 
--- What holds where an attempt stopped, before it is ended.
-abbrev pub StopHolds : {D O : Type 0} → Type 0 → (D → Clock) → (O → Says) → (D → ℕ) → (D → DiskKind → ℕ) → Scene D O → Pass → View D O → Trace → Stop → Type 0
-StopHolds tells clock says far counts scene pass present trace (stops.Broke cause) = LiveDesk tells clock says far counts scene pass present trace
-StopHolds tells clock says far counts scene pass present trace stops.NoMemory = LiveDesk tells clock says far counts scene pass present trace
-StopHolds tells clock says far counts scene pass present trace (stops.Fault fault) = FaultLeaves tells clock says far counts scene present trace fault
-StopHolds tells clock says far counts scene pass present trace (stops.Recorded reason) = RecordedBy tells clock says far counts scene pass present trace reason
+-- What holds where an attempt stopped, before it is ended, perhaps while it finished what came.
+abbrev pub StopHolds : {D O : Type 0} → Bool → Type 0 → (D → Clock) → (O → Says) → (D → ℕ) → (D → DiskKind → ℕ) → Scene D O → Pass → View D O → Trace → Stop → Type 0
+StopHolds came tells clock says far counts scene pass present trace (stops.Broke cause) = LiveDesk tells clock says far counts scene pass present trace
+StopHolds came tells clock says far counts scene pass present trace stops.NoMemory = LiveDesk tells clock says far counts scene pass present trace
+StopHolds came tells clock says far counts scene pass present trace (stops.Fault fault) = FaultLeaves came tells clock says far counts scene present trace fault
+StopHolds came tells clock says far counts scene pass present trace (stops.Recorded reason) = RecordedBy tells clock says far counts scene pass present trace reason
 
 -- a cause that is recorded is the one by which the attempt stopped, or one that the desk met
 abbrev pub IsCauseOf : {D O : Type 0} → Type 0 → (D → Clock) → (O → Says) → (D → ℕ) → (D → DiskKind → ℕ) → Scene D O → Pass → Trace → Stop → Cause → Type 0
@@ -86,16 +86,16 @@ pub record StoppedBy {D O : Type 0} (tells : Type 0) (clock : D → Clock) (says
   pub saved : IsSavedFor scene trace saves stop
   pub over : DeskOver tells clock says far counts scene present (with_saves trace saves) (Broken cause)
 
--- memory was wanting and that was recorded, or a fault of the disk ended it, perhaps while a cause with P was recorded
-abbrev pub FaultEnds : {D O : Type 0} → Type 0 → (D → Clock) → (O → Says) → (D → ℕ) → (D → DiskKind → ℕ) → Scene D O → View D O → Trace → (Cause → Type 0) → DeskFault → Type 0
-FaultEnds tells clock says far counts scene present trace P faults.NoMemory = (saves : List (List Slice)) × DeskOver tells clock says far counts scene present (with_saves trace saves) (Broken causes.Memory)
-FaultEnds tells clock says far counts scene present trace P (faults.Journal kind) =
-    Rose (counts scene.start.disk kind) (counts present.disk kind) × DeskFell tells clock says far counts scene present trace P
-FaultEnds tells clock says far counts scene present trace P fault = FaultLeaves tells clock says far counts scene present trace fault
+-- memory was wanting and that was recorded, or a fault of the disk ended it, perhaps while a cause with P was recorded or what came was finished
+abbrev pub FaultEnds : {D O : Type 0} → Bool → Type 0 → (D → Clock) → (O → Says) → (D → ℕ) → (D → DiskKind → ℕ) → Scene D O → View D O → Trace → (Cause → Type 0) → DeskFault → Type 0
+FaultEnds came tells clock says far counts scene present trace P faults.NoMemory = (saves : List (List Slice)) × DeskOver tells clock says far counts scene present (with_saves trace saves) (Broken causes.Memory)
+FaultEnds came tells clock says far counts scene present trace P (faults.Journal kind) =
+    Rose (counts scene.start.disk kind) (counts present.disk kind) × DeskFell came tells clock says far counts scene present trace P
+FaultEnds came tells clock says far counts scene present trace P fault = FaultLeaves came tells clock says far counts scene present trace fault
 
 -- Each answer, by what ended the attempt.
-abbrev pub EndsBy : {D O : Type 0} → Type 0 → (D → Clock) → (O → Says) → (D → ℕ) → (D → DiskKind → ℕ) → Scene D O → Pass → View D O → Trace → Stop → Ended → Type 0
-EndsBy tells clock says far counts scene pass present trace stop ended.Complete = ⊥
-EndsBy tells clock says far counts scene pass present trace stop (ended.Stopped reason) = StoppedBy tells clock says far counts scene pass present trace stop reason
-EndsBy tells clock says far counts scene pass present trace stop (ended.Fault fault) =
-    FaultEnds tells clock says far counts scene present trace (λ cause. IsCauseOf tells clock says far counts scene pass trace stop cause) fault
+abbrev pub EndsBy : {D O : Type 0} → Bool → Type 0 → (D → Clock) → (O → Says) → (D → ℕ) → (D → DiskKind → ℕ) → Scene D O → Pass → View D O → Trace → Stop → Ended → Type 0
+EndsBy came tells clock says far counts scene pass present trace stop ended.Complete = ⊥
+EndsBy came tells clock says far counts scene pass present trace stop (ended.Stopped reason) = StoppedBy tells clock says far counts scene pass present trace stop reason
+EndsBy came tells clock says far counts scene pass present trace stop (ended.Fault fault) =
+    FaultEnds came tells clock says far counts scene present trace (λ cause. IsCauseOf tells clock says far counts scene pass trace stop cause) fault

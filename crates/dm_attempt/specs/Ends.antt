@@ -73,5 +73,5 @@ DescribeLeaves tells clock says far counts scene pass old new led lost count hea
 DescribeLeaves tells clock says far counts scene pass old new led lost count head told address (Err (stops.Recorded reason)) =
     (reason ≡ reason_of_cause causes.NamesTaken) × RecordedBy tells clock says far counts scene pass new (wished led lost count told.wish) reason
 DescribeLeaves tells clock says far counts scene pass old new led lost count head told address (Err stops.NoMemory) = LiveDesk tells clock says far counts scene pass new (wished led lost count told.wish)
-DescribeLeaves tells clock says far counts scene pass old new led lost count head told address (Err (stops.Fault fault)) = FaultLeaves tells clock says far counts scene new (wished led lost count told.wish) fault
+DescribeLeaves tells clock says far counts scene pass old new led lost count head told address (Err (stops.Fault fault)) = FaultLeaves false tells clock says far counts scene new (wished led lost count told.wish) fault
 DescribeLeaves tells clock says far counts scene pass old new led lost count head told address (Err (stops.Broke cause)) = ⊥

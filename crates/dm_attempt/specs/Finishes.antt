@@ -48,4 +48,4 @@ FinishLeaves tells clock says far counts scene pass old new trace (Ok true) = Is
 FinishLeaves tells clock says far counts scene pass old new trace (Ok false) =
     ((place : ℕ) × IsFirstMissing (total_by scene trace) (cover_by scene trace) place) × LiveDesk tells clock says far counts scene pass new trace
 FinishLeaves tells clock says far counts scene pass old new trace (Err (stops.Broke cause)) = ⊥
-FinishLeaves tells clock says far counts scene pass old new trace (Err stop) = StopHolds tells clock says far counts scene pass new trace stop
+FinishLeaves tells clock says far counts scene pass old new trace (Err stop) = StopHolds true tells clock says far counts scene pass new trace stop

@@ -1,5 +1,5 @@
 -- What the desk shows of an end.
-use Rattle.std.specs.Prelude.{◌≡◌, ◌≢◌, ◌⊎◌, ℕ, ◌<◌, List, [], ◌++◌, Option, Some, None, IfSome, true}
+use Rattle.std.specs.Prelude.{◌≡◌, ◌≢◌, ◌⊎◌, ℕ, ◌<◌, Bool, List, [], ◌++◌, Option, Some, None, IfSome, IsTrue, true}
 use Rattle.dm_types.specs.Faults.{Rose}
 use Rattle.dm_types.specs.declared.kinds.DiskKind.{DiskKind}
 use Rattle.dm_types.specs.declared.slices.Slice.{Slice}
@@ -72,23 +72,25 @@ abbrev pub NoCause : Cause → Type 0
 NoCause cause = ⊥
 
 -- What shows how an attempt was to close where the journal failed: memory was wanting, which nothing has to show; a cause with P; a call on the files failed; or
--- what the desk shows.
-abbrev pub ShowsClose : {D O : Type 0} → Type 0 → (D → Clock) → (O → Says) → (D → ℕ) → (D → DiskKind → ℕ) → Scene D O → View D O → Trace → (Cause → Type 0) → Close → Type 0
-ShowsClose tells clock says far counts scene present trace P (Broken cause) =
+-- what the desk shows. By a file it was to close only where all came and the desk was asked to finish.
+abbrev pub ShowsClose : {D O : Type 0} → Bool → Type 0 → (D → Clock) → (O → Says) → (D → ℕ) → (D → DiskKind → ℕ) → Scene D O → View D O → Trace → (Cause → Type 0) → Close → Type 0
+ShowsClose came tells clock says far counts scene present trace P (Broken cause) =
     (cause ≡ causes.Memory) ⊎ (P cause ⊎ (FileMet (counts scene.start.disk) (counts present.disk) cause
     ⊎ (DeskMet tells clock says far counts scene (pass_of scene.item) trace cause ⊎ BeginMet tells clock scene trace cause)))
-ShowsClose tells clock says far counts scene present trace P (Done total digest) = (total ≡ total_by scene trace) × DeskDone tells clock says far counts scene (pass_of scene.item) trace digest
+ShowsClose came tells clock says far counts scene present trace P (Done total digest) =
+    IsTrue came × (total ≡ total_by scene trace) × DeskDone tells clock says far counts scene (pass_of scene.item) trace digest
 
 -- The journal failed: of the entries of an attempt that might have gone on and closed so those before some place are recorded, and the next one perhaps failed.
--- What was to close it was shown, where it was no cause with P.
-pub record DeskFell {D O : Type 0} (tells : Type 0) (clock : D → Clock) (says : O → Says) (far : D → ℕ) (counts : D → DiskKind → ℕ) (scene : Scene D O) (present : View D O) (trace : Trace) (P : Cause → Type 0) : Type 0 where
+-- What was to close it was shown, where it was no cause with P. What was told of the content stays as it was told.
+pub record DeskFell {D O : Type 0} (came : Bool) (tells : Type 0) (clock : D → Clock) (says : O → Says) (far : D → ℕ) (counts : D → DiskKind → ℕ) (scene : Scene D O) (present : View D O) (trace : Trace) (P : Cause → Type 0) : Type 0 where
   pub after : Trace
   pub led_is : after.led ≡ trace.led
   pub lost_is : after.lost ≡ trace.lost
   pub rounds_are : after.rounds ≡ trace.rounds
+  pub told_is : (trace.told ≡ None) ⊎ (after.told ≡ trace.told)
   pub close : Close
   pub seen : List (List Slice)
-  pub shows : ShowsClose tells clock says far counts scene present (with_saves trace seen) P close
+  pub shows : ShowsClose came tells clock says far counts scene present (with_saves trace seen) P close
   pub recorded : History
   pub failed : History
   pub rest : History

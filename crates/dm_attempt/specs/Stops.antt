@@ -1,5 +1,5 @@
 -- What a step of an attempt leaves, where it went on and where it stopped.
-use Rattle.std.specs.Prelude.{◌≡◌, ℕ, List, length, Option, Some, None, Result, Ok, Err}
+use Rattle.std.specs.Prelude.{◌≡◌, ℕ, Bool, false, List, length, Option, Some, None, Result, Ok, Err}
 use Rattle.dm_types.specs.Faults.{Rose}
 use Rattle.dm_types.specs.declared.kinds.DiskKind.{DiskKind}
 use Rattle.dm_types.specs.declared.reason.Reason.{Reason}
@@ -30,19 +30,19 @@ abbrev pub due_by : DeskFault → Option Stop
 due_by (faults.CheckpointDue bytes) = None
 due_by fault = Some (stop_by fault)
 
--- the desk has ended the attempt by a fault of the disk whose count rose since its start
-abbrev pub FaultLeaves : {D O : Type 0} → Type 0 → (D → Clock) → (O → Says) → (D → ℕ) → (D → DiskKind → ℕ) → Scene D O → View D O → Trace → DeskFault → Type 0
-FaultLeaves tells clock says far counts scene present trace (faults.File kind) =
+-- the desk has ended the attempt by a fault of the disk whose count rose since its start, perhaps while it finished what came
+abbrev pub FaultLeaves : {D O : Type 0} → Bool → Type 0 → (D → Clock) → (O → Says) → (D → ℕ) → (D → DiskKind → ℕ) → Scene D O → View D O → Trace → DeskFault → Type 0
+FaultLeaves came tells clock says far counts scene present trace (faults.File kind) =
     Rose (counts scene.start.disk kind) (counts present.disk kind) × ((saves : List (List Slice)) × DeskOver tells clock says far counts scene present (with_saves trace saves) (Broken (causes.File kind)))
-FaultLeaves tells clock says far counts scene present trace (faults.Journal kind) =
-    Rose (counts scene.start.disk kind) (counts present.disk kind) × DeskFell tells clock says far counts scene present trace NoCause
-FaultLeaves tells clock says far counts scene present trace _ = ⊥
+FaultLeaves came tells clock says far counts scene present trace (faults.Journal kind) =
+    Rose (counts scene.start.disk kind) (counts present.disk kind) × DeskFell came tells clock says far counts scene present trace NoCause
+FaultLeaves came tells clock says far counts scene present trace _ = ⊥
 
--- What a refusal of the desk leaves: where memory was wanting the attempt still runs.
+-- What a refusal of the desk leaves, that wasn't asked to finish: where memory was wanting the attempt still runs.
 abbrev pub Refused : {D O : Type 0} → Type 0 → (D → Clock) → (O → Says) → (D → ℕ) → (D → DiskKind → ℕ) → Scene D O → Pass → View D O → Trace → Stop → Type 0
 Refused tells clock says far counts scene pass present trace (stops.Broke cause) = ⊥
 Refused tells clock says far counts scene pass present trace stops.NoMemory = LiveDesk tells clock says far counts scene pass present trace
-Refused tells clock says far counts scene pass present trace (stops.Fault fault) = FaultLeaves tells clock says far counts scene present trace fault
+Refused tells clock says far counts scene pass present trace (stops.Fault fault) = FaultLeaves false tells clock says far counts scene present trace fault
 Refused tells clock says far counts scene pass present trace (stops.Recorded reason) = ⊥
 
 -- what a save leaves

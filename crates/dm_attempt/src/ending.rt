@@ -1,3 +1,4 @@
+ghost use Rattle.std.specs.Prelude.{Bool};
 ghost use Rattle.dm_store.specs.Origin.{said_of};
 ghost use Rattle.dm_answers.specs.Broke.{IsMet};
 ghost use Rattle.dm_attempt.specs.Ending.{EndsBy, StopHolds, IfBroke};
@@ -15,9 +16,9 @@ use dm_store::Pass;
 
 /// Records that memory was wanting.
 fn wanting<S: Desk>(desk: &mut S, pass: &Pass) -> Ended
-    ensures goes { (scene : Scene S.D S.O) (trace : Trace)
+    ensures goes { (scene : Scene S.D S.O) (trace : Trace) (came : Bool)
         → LiveDesk S.D.tells S.D.history (λ o. said_of (S.O.says o)) S.D.far S.D.faults scene pass.now (S.view desk.old) trace
-        → EndsBy S.D.tells S.D.history (λ o. said_of (S.O.says o)) S.D.far S.D.faults scene pass.now (S.view desk.new) trace stops.NoMemory result }
+        → EndsBy came S.D.tells S.D.history (λ o. said_of (S.O.says o)) S.D.far S.D.faults scene pass.now (S.view desk.new) trace stops.NoMemory result }
 {
     match desk.broke(pass, &Cause::Memory) {
         Ok(()) => Ended::Fault(DeskFault::NoMemory),
@@ -29,9 +30,9 @@ fn wanting<S: Desk>(desk: &mut S, pass: &Pass) -> Ended
 fn interrupt<S: Desk>(desk: &mut S, pass: &Pass, cause: &Cause) -> Ended
     requires met { IsMet cause.now }
     requires none { NothingUnsaved (S.view desk.old) pass.now }
-    ensures goes { (scene : Scene S.D S.O) (trace : Trace)
+    ensures goes { (scene : Scene S.D S.O) (trace : Trace) (came : Bool)
         → LiveDesk S.D.tells S.D.history (λ o. said_of (S.O.says o)) S.D.far S.D.faults scene pass.now (S.view desk.old) trace
-        → EndsBy S.D.tells S.D.history (λ o. said_of (S.O.says o)) S.D.far S.D.faults scene pass.now (S.view desk.new) trace (stops.Broke cause.now) result }
+        → EndsBy came S.D.tells S.D.history (λ o. said_of (S.O.says o)) S.D.far S.D.faults scene pass.now (S.view desk.new) trace (stops.Broke cause.now) result }
 {
     match desk.broke(pass, cause) {
         Ok(()) => Ended::Stopped(reason_of(cause)),
@@ -41,9 +42,9 @@ fn interrupt<S: Desk>(desk: &mut S, pass: &Pass, cause: &Cause) -> Ended
 
 /// Ends an attempt whose save was refused.
 fn end_refused<S: Desk>(desk: &mut S, pass: &Pass, stop: Stop) -> Ended
-    ensures goes { (scene : Scene S.D S.O) (trace : Trace)
+    ensures goes { (scene : Scene S.D S.O) (trace : Trace) (came : Bool)
         → Refused S.D.tells S.D.history (λ o. said_of (S.O.says o)) S.D.far S.D.faults scene pass.now (S.view desk.old) trace stop
-        → EndsBy S.D.tells S.D.history (λ o. said_of (S.O.says o)) S.D.far S.D.faults scene pass.now (S.view desk.new) trace stop result }
+        → EndsBy came S.D.tells S.D.history (λ o. said_of (S.O.says o)) S.D.far S.D.faults scene pass.now (S.view desk.new) trace stop result }
 {
     match stop {
         Stop::NoMemory => wanting(desk, pass),
@@ -56,9 +57,9 @@ fn end_refused<S: Desk>(desk: &mut S, pass: &Pass, stop: Stop) -> Ended
 /// Saves what was landed, and records the cause.
 fn end_by<S: Desk>(desk: &mut S, pass: &Pass, cause: &Cause) -> Ended
     requires met { IsMet cause.now }
-    ensures goes { (scene : Scene S.D S.O) (trace : Trace)
+    ensures goes { (scene : Scene S.D S.O) (trace : Trace) (came : Bool)
         → LiveDesk S.D.tells S.D.history (λ o. said_of (S.O.says o)) S.D.far S.D.faults scene pass.now (S.view desk.old) trace
-        → EndsBy S.D.tells S.D.history (λ o. said_of (S.O.says o)) S.D.far S.D.faults scene pass.now (S.view desk.new) trace (stops.Broke cause.now) result }
+        → EndsBy came S.D.tells S.D.history (λ o. said_of (S.O.says o)) S.D.far S.D.faults scene pass.now (S.view desk.new) trace (stops.Broke cause.now) result }
 {
     match save(desk, pass) {
         Ok(()) => interrupt(desk, pass, cause),
@@ -69,9 +70,9 @@ fn end_by<S: Desk>(desk: &mut S, pass: &Pass, cause: &Cause) -> Ended
 /// Ends an attempt that stopped. What was landed is saved before a cause is recorded, unless memory was wanting.
 pub fn end<S: Desk>(desk: &mut S, pass: &Pass, stop: Stop) -> Ended
     requires met { IfBroke stop IsMet }
-    ensures goes { (scene : Scene S.D S.O) (trace : Trace)
-        → StopHolds S.D.tells S.D.history (λ o. said_of (S.O.says o)) S.D.far S.D.faults scene pass.now (S.view desk.old) trace stop
-        → EndsBy S.D.tells S.D.history (λ o. said_of (S.O.says o)) S.D.far S.D.faults scene pass.now (S.view desk.new) trace stop result }
+    ensures goes { (scene : Scene S.D S.O) (trace : Trace) (came : Bool)
+        → StopHolds came S.D.tells S.D.history (λ o. said_of (S.O.says o)) S.D.far S.D.faults scene pass.now (S.view desk.old) trace stop
+        → EndsBy came S.D.tells S.D.history (λ o. said_of (S.O.says o)) S.D.far S.D.faults scene pass.now (S.view desk.new) trace stop result }
 {
     match stop {
         Stop::Broke(cause) => end_by(desk, pass, &cause),

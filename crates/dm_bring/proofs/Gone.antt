@@ -182,21 +182,21 @@ module _ {D O : Type 0} (tells : Type 0) (clock : D → Clock) (says : O → Say
           by_goes (with_saves asked saves) close all [] [] false (sym (append-nil (all ++ []) ∙ append-nil all)) goes
           (λ told unbroken. attempt_free tells clock says far counts net sound scene (pass_of item) slices (RoundsOf net end) (with_saves asked saves) asked close refl asks told)
 
-    ended_gone : (trace : Trace) (end : Ended) → Asks tells clock says far counts net scene (pass_of item) slices (RoundsOf net end) trace → EndedBy tells clock says far counts net scene (pass_of item) new before after trace end → Gone old new
-    ended_gone trace ended.Complete asks ends = over trace ended.Complete asks ends.saves (Done (total_by scene trace) ends.digest) ends.over.goes
-    ended_gone trace (ended.Stopped reason) asks ends = over trace (ended.Stopped reason) asks ends.saves (Broken ends.cause) ends.over.goes
-    ended_gone trace (ended.Fault faults.NoMemory) asks ends = over trace (ended.Fault faults.NoMemory) asks ends.0 (Broken causes.Memory) ends.1.goes
-    ended_gone trace (ended.Fault (faults.File kind)) asks ends = over trace (ended.Fault (faults.File kind)) asks ends.1.0 (Broken (causes.File kind)) ends.1.1.goes
-    ended_gone trace (ended.Fault (faults.Journal kind)) asks ends =
+    ended_gone : (came : Bool) (trace : Trace) (end : Ended) → Asks tells clock says far counts net scene (pass_of item) slices (RoundsOf net end) trace → EndedBy came tells clock says far counts net scene (pass_of item) new before after trace end → Gone old new
+    ended_gone came trace ended.Complete asks ends = over trace ended.Complete asks ends.saves (Done (total_by scene trace) ends.digest) ends.over.goes
+    ended_gone came trace (ended.Stopped reason) asks ends = over trace (ended.Stopped reason) asks ends.saves (Broken ends.cause) ends.over.goes
+    ended_gone came trace (ended.Fault faults.NoMemory) asks ends = over trace (ended.Fault faults.NoMemory) asks ends.0 (Broken causes.Memory) ends.1.goes
+    ended_gone came trace (ended.Fault (faults.File kind)) asks ends = over trace (ended.Fault (faults.File kind)) asks ends.1.0 (Broken (causes.File kind)) ends.1.1.goes
+    ended_gone came trace (ended.Fault (faults.Journal kind)) asks ends =
         by_goes ends.1.after ends.1.close ends.1.recorded ends.1.failed ends.1.rest true ends.1.is ends.1.goes
         (λ told unbroken. absurd (false≢true (sym unbroken ∙ ends.1.goes.went.broken_is)))
-    ended_gone trace (ended.Fault fault) asks ends = absurd ends
+    ended_gone came trace (ended.Fault fault) asks ends = absurd ends
 
   attempt_gone : (old new : View D O) (was closed : List Closed) (before after : NetFault → ℕ) (by : By) (end : Ended) → old.broken ≡ false → old.failed ≡ []
       → Attempts tells clock says far counts net old new was closed before after id by slices at end → Gone old new
   attempt_gone old new was closed before after by end whole none (wanting end_is same still) = stayed old new same whole none
   attempt_gone old new was closed before after by end whole none (refused fault end_is refuses still) = not_begun old new by fault refuses whole none
-  attempt_gone old new was closed before after by end whole none (tried found) = ended_gone old new was before after by found.item found.there found.is.trace end found.is.asks found.is.ends
+  attempt_gone old new was closed before after by end whole none (tried found) = ended_gone old new was before after by found.item found.there found.is.came found.is.trace end found.is.asks found.is.ends
 
   -- one behind another, that stopped
   module _ (old mid new : View D O) (one : Gone old mid) (two : Gone mid new) (whole : mid.broken ≡ false) (none : mid.failed ≡ []) (goes : MayGoOn mid id) where

@@ -71,16 +71,16 @@ module _ (from to : World) where
   ClosesCounted (Done total digest) = Unit {0}
 
   -- what was to close an attempt where the journal failed
-  pub close_counted : {D O : Type 0} (tells : Type 0) (clock : D → Clock) (says : O → Says) (far : D → ℕ) (counts : D → DiskKind → ℕ) (scene : Scene D O) (present : View D O) (trace : Trace) (P : Cause → Type 0) (close : Close)
-      → counts scene.start.disk ≡ from.disk_faults → counts present.disk ≡ to.disk_faults → ((cause : Cause) → P cause → IsCounted from to (reason_of_cause cause)) → ShowsClose tells clock says far counts scene present trace P close
+  pub close_counted : {D O : Type 0} (came : Bool) (tells : Type 0) (clock : D → Clock) (says : O → Says) (far : D → ℕ) (counts : D → DiskKind → ℕ) (scene : Scene D O) (present : View D O) (trace : Trace) (P : Cause → Type 0) (close : Close)
+      → counts scene.start.disk ≡ from.disk_faults → counts present.disk ≡ to.disk_faults → ((cause : Cause) → P cause → IsCounted from to (reason_of_cause cause)) → ShowsClose came tells clock says far counts scene present trace P close
       → ClosesCounted close
-  close_counted tells clock says far counts scene present trace P (Done total digest) start end each shows = tt
-  close_counted tells clock says far counts scene present trace P (Broken cause) start end each (inl memory) = subst (λ (c : Cause). IsCounted from to (reason_of_cause c)) (sym memory) tt
-  close_counted tells clock says far counts scene present trace P (Broken cause) start end each (inr (inl met)) = each cause met
-  close_counted tells clock says far counts scene present trace P (Broken cause) start end each (inr (inr (inl met))) =
+  close_counted came tells clock says far counts scene present trace P (Done total digest) start end each shows = tt
+  close_counted came tells clock says far counts scene present trace P (Broken cause) start end each (inl memory) = subst (λ (c : Cause). IsCounted from to (reason_of_cause c)) (sym memory) tt
+  close_counted came tells clock says far counts scene present trace P (Broken cause) start end each (inr (inl met)) = each cause met
+  close_counted came tells clock says far counts scene present trace P (Broken cause) start end each (inr (inr (inl met))) =
       file_met cause (subst (λ (before : DiskKind → ℕ). FileMet before to.disk_faults cause) start (subst (λ (after : DiskKind → ℕ). FileMet (counts scene.start.disk) after cause) end met))
-  close_counted tells clock says far counts scene present trace P (Broken cause) start end each (inr (inr (inr (inl met)))) = shows_counted tells clock says far counts scene (pass_of scene.item) trace met.desk cause met.is
-  close_counted tells clock says far counts scene present trace P (Broken cause) start end each (inr (inr (inr (inr met)))) = begin_counted tells clock says far counts scene (pass_of scene.item) trace cause met
+  close_counted came tells clock says far counts scene present trace P (Broken cause) start end each (inr (inr (inr (inl met)))) = shows_counted tells clock says far counts scene (pass_of scene.item) trace met.desk cause met.is
+  close_counted came tells clock says far counts scene present trace P (Broken cause) start end each (inr (inr (inr (inr met)))) = begin_counted tells clock says far counts scene (pass_of scene.item) trace cause met
 
   module _ (id : ItemId) (at : ℕ) where
     abbrev Of : Entry → Type 0

@@ -195,25 +195,25 @@ module _ {D O : Type 0} (tells : Type 0) (clock : D → Clock) (says : O → Say
     by_left trace close is none found here immediate =
         none (subst (λ (i : Item). IsTrue (is_immediate (mode_of_item i))) (same_item new found (left scene trace close) here (left_there scene trace close id.0 old.items new.items there is)) immediate)
 
-    ended_rests : (trace : Trace) (end : Ended) → (GoesOn new id end → ⊥) → EndedBy tells clock says far counts net scene (pass_of item) new before after trace end → RestsBy new end
-    ended_rests trace ended.Complete stays ends =
+    ended_rests : (came : Bool) (trace : Trace) (end : Ended) → (GoesOn new id end → ⊥) → EndedBy came tells clock says far counts net scene (pass_of item) new before after trace end → RestsBy new end
+    ended_rests came trace ended.Complete stays ends =
         let all : Trace = with_saves trace ends.saves in
         let close : Close = Done (total_by scene trace) ends.digest in
         by_left all close ends.over.goes.went.items_are (complete_rests (left scene all close) (ap (λ (i : Item). i.phase) (left_is scene all close)))
-    ended_rests trace (ended.Stopped reason) stays ends = λ found here immediate. stays (record { item = found; there = here; is = immediate })
-    ended_rests trace (ended.Fault faults.NoMemory) stays ends = tt
-    ended_rests trace (ended.Fault (faults.Journal kind)) stays ends = tt
-    ended_rests trace (ended.Fault (faults.File kind)) stays ends =
+    ended_rests came trace (ended.Stopped reason) stays ends = λ found here immediate. stays (record { item = found; there = here; is = immediate })
+    ended_rests came trace (ended.Fault faults.NoMemory) stays ends = tt
+    ended_rests came trace (ended.Fault (faults.Journal kind)) stays ends = tt
+    ended_rests came trace (ended.Fault (faults.File kind)) stays ends =
         let all : Trace = with_saves trace ends.1.0 in
         let close : Close = Broken (causes.File kind) in
         by_left all close ends.1.1.goes.went.items_are (file_rests kind (left scene all close) (ap (λ (i : Item). i.reason) (left_is scene all close)))
-    ended_rests trace (ended.Fault fault) stays ends = absurd ends
+    ended_rests came trace (ended.Fault fault) stays ends = absurd ends
 
   attempt_rests : (old new : View D O) (was closed : List Closed) (before after : NetFault → ℕ) (by : By) (end : Ended) → old.broken ≡ false → Starts old by → (GoesOn new id end → ⊥)
       → Attempts tells clock says far counts net old new was closed before after id by slices at end → RestsBy new end
   attempt_rests old new was closed before after by end whole starts stays (wanting end_is same still) = subst (RestsBy new) (sym end_is) tt
   attempt_rests old new was closed before after by end whole starts stays (refused fault end_is why still) = subst (RestsBy new) (sym end_is) (refused_rests old new by fault whole starts why)
-  attempt_rests old new was closed before after by end whole starts stays (tried found) = ended_rests old new was before after by found.item found.there found.is.trace end stays found.is.ends
+  attempt_rests old new was closed before after by end whole starts stays (tried found) = ended_rests old new was before after by found.item found.there found.is.came found.is.trace end stays found.is.ends
 
   -- an item that goes on was interrupted, and may be begun by itself
   starts_itself : (old mid : View D O) (was between : List Closed) (before amid : NetFault → ℕ) (by : By) (reason : Reason) → MayGoOn mid id

@@ -165,16 +165,16 @@ module _ {D O : Type 0} (tells : Type 0) (clock : D → Clock) (says : O → Say
       known_counted trace cause (inl met) = desk_counted from to tells clock says far counts scene (pass_of item) trace cause met
       known_counted trace cause (inr met) = shown trace cause met
 
-      by_end : (trace : Trace) (end : Ended) → EndedBy tells clock says far counts net scene (pass_of item) new before after trace end → Stepped old new was closed before after end
-      by_end trace ended.Complete ends = over _ (with_saves trace ends.saves) (Done (total_by scene trace) ends.digest) ended.Complete tt ends.over.goes (refl, refl)
-      by_end trace (ended.Stopped reason) ends = over _ (with_saves trace ends.saves) (Broken ends.cause) (ended.Stopped reason) (met_counted trace ends.saves ends.cause ends.met) ends.over.goes (refl, refl)
-      by_end trace (ended.Fault faults.NoMemory) ends = over _ (with_saves trace ends.0) (Broken causes.Memory) (ended.Fault faults.NoMemory) tt ends.1.goes (refl, refl)
-      by_end trace (ended.Fault (faults.File kind)) ends = over _ (with_saves trace ends.1.0) (Broken (causes.File kind)) (ended.Fault (faults.File kind)) (file_counted from to kind ends.0) ends.1.1.goes (refl, refl)
-      by_end trace (ended.Fault (faults.Journal kind)) ends =
+      by_end : (came : Bool) (trace : Trace) (end : Ended) → EndedBy came tells clock says far counts net scene (pass_of item) new before after trace end → Stepped old new was closed before after end
+      by_end came trace ended.Complete ends = over _ (with_saves trace ends.saves) (Done (total_by scene trace) ends.digest) ended.Complete tt ends.over.goes (refl, refl)
+      by_end came trace (ended.Stopped reason) ends = over _ (with_saves trace ends.saves) (Broken ends.cause) (ended.Stopped reason) (met_counted trace ends.saves ends.cause ends.met) ends.over.goes (refl, refl)
+      by_end came trace (ended.Fault faults.NoMemory) ends = over _ (with_saves trace ends.0) (Broken causes.Memory) (ended.Fault faults.NoMemory) tt ends.1.goes (refl, refl)
+      by_end came trace (ended.Fault (faults.File kind)) ends = over _ (with_saves trace ends.1.0) (Broken (causes.File kind)) (ended.Fault (faults.File kind)) (file_counted from to kind ends.0) ends.1.1.goes (refl, refl)
+      by_end came trace (ended.Fault (faults.Journal kind)) ends =
           fell _ ends.1.after ends.1.close ends.1.recorded ends.1.failed ends.1.rest kind
-          (close_counted from to tells clock says far counts scene new (with_saves trace ends.1.seen) (Known trace) ends.1.close refl refl (known_counted trace) ends.1.shows)
+          (close_counted from to came tells clock says far counts scene new (with_saves trace ends.1.seen) (Known trace) ends.1.close refl refl (known_counted trace) ends.1.shows)
           ends.1.is ends.1.goes ends.0
-      by_end trace (ended.Fault fault) ends = absurd ends
+      by_end came trace (ended.Fault fault) ends = absurd ends
 
   pub attempt_step : (old new : View D O) (was closed : List Closed) (before after : NetFault → ℕ) (by : By) (end : Ended) → old.broken ≡ false → old.failed ≡ [] → NoneFell before after
       → Attempts tells clock says far counts net old new was closed before after id by slices at end → Stepped old new was closed before after end
@@ -182,7 +182,7 @@ module _ {D O : Type 0} (tells : Type 0) (clock : D → Clock) (says : O → Say
   attempt_step old new was closed before after by end whole none later (refused fault end_is refuses closed_is) = at_refusal old new was closed before after by end fault end_is refuses whole none later
   attempt_step old new was closed before after by end whole none later (tried with_item) =
       by_end old new was closed before after by with_item.item with_item.there later
-      (shown_counted (world_of clock counts old was before) (world_of clock counts new closed after) net (scene_of old with_item.item by at was before)) with_item.is.trace end with_item.is.ends
+      (shown_counted (world_of clock counts old was before) (world_of clock counts new closed after) net (scene_of old with_item.item by at was before)) with_item.is.came with_item.is.trace end with_item.is.ends
 
   module _ (old mid new : View D O) (was between closed : List Closed) (before amid after : NetFault → ℕ) where
     abbrev start : World

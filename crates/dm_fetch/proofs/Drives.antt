@@ -1,5 +1,6 @@
 -- What the asking and reading of an attempt leave.
-use Rattle.std.proofs.Common.{◌≡◌, inl, inr, ◌≤◌, ℕ, List, [], length, Option, None, Some, Result, Ok, Err, refl, sym, ◌∙◌, ap, subst}
+use Rattle.std.proofs.Common.{◌≡◌, inl, inr, ◌≤◌, ℕ, List, [], length, Option, None, Some, Result, Ok, Err, refl, sym, ◌∙◌, ap, subst, false}
+use Rattle.std.proofs.lemmas.Bool.{false≢true}
 use Rattle.std.specs.Prelude.{IsSome, is_some}
 use Rattle.std.proofs.lemmas.List.{append-nil}
 use Rattle.std.proofs.lemmas.Option.{same_Some}
@@ -45,7 +46,7 @@ module _ {D O : Type 0} (tells : Type 0) (clock : D → Clock) (says : O → Say
   begun_at kept = let live = begun.live 0 in record { item = live.runs.item; there = live.runs.there; is = subst IsKept (sym live.runs.is.item_is) kept }
 
   -- the address that the attempt begins with is no longer read, or memory was wanting
-  unread_holds : (text : List ℕ) (stop : Stop) → Unreads text stop → StopHolds tells clock says far counts scene pass old (untold [] [] 0) stop
+  unread_holds : (text : List ℕ) (stop : Stop) → Unreads text stop → StopHolds false tells clock says far counts scene pass old (untold [] [] 0) stop
   unread_holds text (stops.Broke cause) unread = begun.live 0
   unread_holds text stops.NoMemory unread = begun.live 0
   unread_holds text (stops.Fault fault) unread = absurd unread
@@ -62,6 +63,9 @@ module _ {D O : Type 0} (tells : Type 0) (clock : D → Clock) (says : O → Say
     trace = untold [] [] 0;
     asks = nothing (record { led = refl; lost = refl; wish = refl; told = refl; rounds = refl });
     closed_is = λ t. begun.closed_is ∙ sym (append-nil scene.closed);
+    came = false;
+    some = λ never. absurd (false≢true never);
+    all = λ never. absurd (false≢true never);
     holds = unread_holds text stop unread;
     shown = unread_shown text stop is unread before;
   }
@@ -86,12 +90,15 @@ module _ {D O : Type 0} (tells : Type 0) (clock : D → Clock) (says : O → Say
       trace = leaves.trace;
       asks = anew (record { none = none; first = first; stable = stable; desk = old; live = begun.live 0; fresh = leaves.fresh; replied = leaves.replied; rounds = leaves.rounds });
       closed_is = leaves.ended.closed_is;
-      finished = record { digest = leaves.ended.digest; done = leaves.ended.done; saves = leaves.ended.saves; over = leaves.ended.over };
+      finished = record { some = leaves.ended.some; digest = leaves.ended.digest; done = leaves.ended.done; saves = leaves.ended.saves; over = leaves.ended.over };
     }
     fresh_drives first none stable (Err stop) leaves = record {
       trace = leaves.trace;
       asks = anew (record { none = none; first = first; stable = stable; desk = old; live = begun.live 0; fresh = leaves.fresh; replied = leaves.replied; rounds = leaves.rounds });
       closed_is = leaves.stopped.closed_is;
+      came = leaves.stopped.came;
+      some = leaves.stopped.some;
+      all = λ came. anew (record { none = none; first = first; stable = stable; desk = old; live = begun.live 0; fresh = leaves.fresh; replied = leaves.replied; rounds = leaves.all came });
       holds = leaves.stopped.holds;
       shown = if_net after leaves.trace stop leaves.stopped.shown;
     }
@@ -103,12 +110,15 @@ module _ {D O : Type 0} (tells : Type 0) (clock : D → Clock) (says : O → Say
       trace = leaves.trace;
       asks = on (record { source = source; is = is; few = few; led = leaves.from.led_is; lost = leaves.from.lost_is; wish = leaves.from.wish_is; told = leaves.from.told_is; count = leaves.from.count_is; rounds = leaves.rounds });
       closed_is = leaves.ended.closed_is;
-      finished = record { digest = leaves.ended.digest; done = leaves.ended.done; saves = leaves.ended.saves; over = leaves.ended.over };
+      finished = record { some = leaves.ended.some; digest = leaves.ended.digest; done = leaves.ended.done; saves = leaves.ended.saves; over = leaves.ended.over };
     }
     kept_drives source is few (Err stop) leaves = record {
       trace = leaves.trace;
       asks = on (record { source = source; is = is; few = few; led = leaves.from.led_is; lost = leaves.from.lost_is; wish = leaves.from.wish_is; told = leaves.from.told_is; count = leaves.from.count_is; rounds = leaves.rounds });
       closed_is = leaves.stopped.closed_is;
+      came = leaves.stopped.came;
+      some = leaves.stopped.some;
+      all = λ came. on (record { source = source; is = is; few = few; led = leaves.from.led_is; lost = leaves.from.lost_is; wish = leaves.from.wish_is; told = leaves.from.told_is; count = leaves.from.count_is; rounds = leaves.all came });
       holds = leaves.stopped.holds;
       shown = if_net after leaves.trace stop leaves.stopped.shown;
     }

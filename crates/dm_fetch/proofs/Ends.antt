@@ -1,5 +1,6 @@
 -- How an attempt ends, by why it stopped.
-use Rattle.std.proofs.Common.{◌≡◌, ◌⊎◌, inl, inr, ℕ, List, [], refl, sym, ◌∙◌, subst}
+use Rattle.std.proofs.Common.{◌≡◌, ◌⊎◌, inl, inr, ℕ, List, [], refl, sym, ◌∙◌, subst, Bool, false}
+use Rattle.std.proofs.lemmas.Bool.{false≢true}
 use Rattle.std.proofs.lemmas.List.{append-nil}
 use Rattle.dm_types.specs.declared.item.ItemId.{ItemId}
 use Rattle.dm_types.specs.declared.kinds.By.{By}
@@ -32,23 +33,24 @@ use Rattle.dm_fetch.specs.Drive.{DriveStops}
 use Rattle.dm_fetch.specs.Starts.{StartEnds, StartsFailing, StartsShort, failed, not_begun, scene_of, short}
 
 module _ {D O : Type 0} (tells : Type 0) (clock : D → Clock) (says : O → Says) (far : D → ℕ) (counts : D → DiskKind → ℕ) where
-  module _ (scene : Scene D O) (new : View D O) (trace : Trace) (P Q : Cause → Type 0) (f : (cause : Cause) → P cause → Q cause) where
-    shows_map : (close : Close) → ShowsClose tells clock says far counts scene new trace P close → ShowsClose tells clock says far counts scene new trace Q close
+  module _ (came : Bool) (scene : Scene D O) (new : View D O) (trace : Trace) (P Q : Cause → Type 0) (f : (cause : Cause) → P cause → Q cause) where
+    shows_map : (close : Close) → ShowsClose came tells clock says far counts scene new trace P close → ShowsClose came tells clock says far counts scene new trace Q close
     shows_map (Broken cause) (inl memory) = inl memory
     shows_map (Broken cause) (inr (inl met)) = inr (inl (f cause met))
     shows_map (Broken cause) (inr (inr other)) = inr (inr other)
     shows_map (Done total digest) shows = shows
 
-  module _ (scene : Scene D O) (new : View D O) (trace : Trace) (P Q : Cause → Type 0) (f : (cause : Cause) → P cause → Q cause) where
-    fell_map : DeskFell tells clock says far counts scene new trace P → DeskFell tells clock says far counts scene new trace Q
+  module _ (came : Bool) (scene : Scene D O) (new : View D O) (trace : Trace) (P Q : Cause → Type 0) (f : (cause : Cause) → P cause → Q cause) where
+    fell_map : DeskFell came tells clock says far counts scene new trace P → DeskFell came tells clock says far counts scene new trace Q
     fell_map fell = record {
       after = fell.after;
       led_is = fell.led_is;
       lost_is = fell.lost_is;
       rounds_are = fell.rounds_are;
+      told_is = fell.told_is;
       close = fell.close;
       seen = fell.seen;
-      shows = shows_map scene new (record trace { saves = fell.seen }) P Q f fell.close fell.shows;
+      shows = shows_map came scene new (record trace { saves = fell.seen }) P Q f fell.close fell.shows;
       recorded = fell.recorded;
       failed = fell.failed;
       rest = fell.rest;
@@ -57,7 +59,7 @@ module _ {D O : Type 0} (tells : Type 0) (clock : D → Clock) (says : O → Say
       planned = fell.planned;
     }
 
-    fault_map : (fault : DeskFault) → FaultEnds tells clock says far counts scene new trace P fault → FaultEnds tells clock says far counts scene new trace Q fault
+    fault_map : (fault : DeskFault) → FaultEnds came tells clock says far counts scene new trace P fault → FaultEnds came tells clock says far counts scene new trace Q fault
     fault_map (faults.Journal kind) ends = (ends.0, fell_map ends.1)
     fault_map (faults.File kind) ends = ends
     fault_map faults.NoMemory ends = ends
@@ -76,8 +78,8 @@ module _ {D O : Type 0} (tells : Type 0) (clock : D → Clock) (says : O → Say
     none_map : (cause : Cause) → NoCause cause → P cause
     none_map cause none = absurd none
 
-    leaves_ends : (fault : DeskFault) → FaultLeaves tells clock says far counts scene new trace fault → FaultEnds tells clock says far counts scene new trace P fault
-    leaves_ends (faults.Journal kind) leaves = (leaves.0, fell_map scene new trace NoCause P none_map leaves.1)
+    leaves_ends : (fault : DeskFault) → FaultLeaves false tells clock says far counts scene new trace fault → FaultEnds false tells clock says far counts scene new trace P fault
+    leaves_ends (faults.Journal kind) leaves = (leaves.0, fell_map false scene new trace NoCause P none_map leaves.1)
     leaves_ends (faults.File kind) leaves = leaves
     leaves_ends faults.NoMemory leaves = absurd leaves
     leaves_ends faults.Broken leaves = leaves
@@ -108,17 +110,17 @@ module _ {D O : Type 0} (tells : Type 0) (clock : D → Clock) (says : O → Say
     met_by (stops.Fault fault) shown saves cause of saved = absurd of
     met_by (stops.Recorded reason) shown saves cause of saved = at_desk of
 
-    pub ends_by : (stop : Stop) (end : Ended) → IfBroke stop (MetAtNet net before after scene trace) → EndsBy tells clock says far counts scene pass new trace stop end → EndedBy tells clock says far counts net scene pass new before after trace end
-    ends_by stop ended.Complete shown ends = absurd ends
-    ends_by stop (ended.Stopped reason) shown ends = record { cause = ends.cause; reason_is = ends.reason_is; saves = ends.saves; met = met_by stop shown ends.saves ends.cause ends.of ends.saved; over = ends.over }
-    ends_by stop (ended.Fault fault) shown ends = fault_map scene new trace (IsCauseOf tells clock says far counts scene pass trace stop) Met (cause_of stop shown) fault ends
+    pub ends_by : (came : Bool) (stop : Stop) (end : Ended) → IfBroke stop (MetAtNet net before after scene trace) → EndsBy came tells clock says far counts scene pass new trace stop end → EndedBy came tells clock says far counts net scene pass new before after trace end
+    ends_by came stop ended.Complete shown ends = absurd ends
+    ends_by came stop (ended.Stopped reason) shown ends = record { cause = ends.cause; reason_is = ends.reason_is; saves = ends.saves; met = met_by stop shown ends.saves ends.cause ends.of ends.saved; over = ends.over }
+    ends_by came stop (ended.Fault fault) shown ends = fault_map came scene new trace (IsCauseOf tells clock says far counts scene pass trace stop) Met (cause_of stop shown) fault ends
 
   module _ (net : Type 0) (scene : Scene D O) (pass : Pass) (old new : View D O) (closed : List Closed) (before after : NetFault → ℕ) (slices : ℕ) (stop : Stop) (left : DriveStops tells clock says far counts net scene pass old closed before after slices stop) where
     -- an attempt that stopped was ended
-    pub tried_by : (end : Ended) → EndsBy tells clock says far counts scene pass new left.trace stop end → TriedBy tells clock says far counts net scene pass new closed before after slices end
+    pub tried_by : (end : Ended) → EndsBy left.came tells clock says far counts scene pass new left.trace stop end → TriedBy tells clock says far counts net scene pass new closed before after slices end
     tried_by ended.Complete ends = absurd ends
-    tried_by (ended.Stopped reason) ends = record { trace = left.trace; asks = left.asks; closed_is = left.closed_is; ends = ends_by net scene pass new before after left.trace stop (ended.Stopped reason) left.shown ends }
-    tried_by (ended.Fault fault) ends = record { trace = left.trace; asks = left.asks; closed_is = left.closed_is; ends = ends_by net scene pass new before after left.trace stop (ended.Fault fault) left.shown ends }
+    tried_by (ended.Stopped reason) ends = record { trace = left.trace; asks = left.asks; closed_is = left.closed_is; came = left.came; some = left.some; all = left.all; ends = ends_by net scene pass new before after left.trace left.came stop (ended.Stopped reason) left.shown ends }
+    tried_by (ended.Fault fault) ends = record { trace = left.trace; asks = left.asks; closed_is = left.closed_is; came = left.came; some = left.some; all = left.all; ends = ends_by net scene pass new before after left.trace left.came stop (ended.Fault fault) left.shown ends }
 
   module _ (net : Type 0) (old new : View D O) (was closed : List Closed) (before after : NetFault → ℕ) (id : ItemId) (by : By) (slices at : ℕ) (still : net → closed ≡ was) where
     short_tried : (have wanted : ℕ) → (found : ItemWith old id (StartsShort tells clock says far counts old new by at have wanted))
@@ -127,6 +129,9 @@ module _ {D O : Type 0} (tells : Type 0) (clock : D → Clock) (says : O → Say
       trace = untold [] [] 0;
       asks = nothing (record { led = refl; lost = refl; wish = refl; told = refl; rounds = refl });
       closed_is = λ t. still t ∙ sym (append-nil was);
+      came = false;
+      some = λ never. absurd (false≢true never);
+      all = λ never. absurd (false≢true never);
       ends = record { cause = causes.PartShort have wanted; reason_is = refl; saves = []; met = at_desk (inr (record { have = have; wanted = wanted; is = refl; short = found.is.short; untold = refl; none = refl })); over = found.is.over was before };
     }
 
@@ -136,6 +141,9 @@ module _ {D O : Type 0} (tells : Type 0) (clock : D → Clock) (says : O → Say
       trace = untold [] [] 0;
       asks = nothing (record { led = refl; lost = refl; wish = refl; told = refl; rounds = refl });
       closed_is = λ t. still t ∙ sym (append-nil was);
+      came = false;
+      some = λ never. absurd (false≢true never);
+      all = λ never. absurd (false≢true never);
       ends = leaves_ends (scene_of old found.item by at was before) new (untold [] [] 0) (Met net (scene_of old found.item by at was before) (pass_of found.item) new before after (untold [] [] 0)) fault (found.is.ends was before);
     }
 

@@ -1,5 +1,5 @@
 -- No count of the disk falls over an attempt, or over all that an item makes; and the connections of the first are among those of all.
-use Rattle.std.proofs.Common.{◌≡◌, ◌⊎◌, inl, inr, ◌≤◌, ℕ, List, [], ◌∷◌, ◌++◌, length, Some, refl, sym, ◌∙◌, ap, subst, arith, append_assoc}
+use Rattle.std.proofs.Common.{◌≡◌, ◌⊎◌, inl, inr, ◌≤◌, ℕ, List, [], ◌∷◌, ◌++◌, length, Some, refl, sym, ◌∙◌, ap, subst, arith, append_assoc, Bool}
 use Rattle.std.specs.List.{Contains}
 use Rattle.std.proofs.lemmas.List.{append-nil}
 use Rattle.std.proofs.lemmas.List.Elements.{Contains-append_left}
@@ -53,20 +53,20 @@ module _ {D O : Type 0} (tells : Type 0) (clock : D → Clock) (says : O → Say
   abbrev Later : Type 0
   Later = GoesBehind counts old new
 
-  fault_later : (scene : Scene D O) (trace : Trace) (P : Cause → Type 0) (fault : DeskFault) → scene.start ≡ old → FaultEnds tells clock says far counts scene new trace P fault → Later
-  fault_later scene trace P (faults.File kind) same ends = subst (λ (v : View D O). GoesBehind counts v new) same (ends.1.1.goes.later, (_, ends.1.1.goes.went.list_is))
-  fault_later scene trace P (faults.Journal kind) same ends = subst (λ (v : View D O). GoesBehind counts v new) same (ends.1.goes.later, (_, ends.1.goes.went.list_is))
-  fault_later scene trace P faults.NoMemory same ends = subst (λ (v : View D O). GoesBehind counts v new) same (ends.1.goes.later, (_, ends.1.goes.went.list_is))
-  fault_later scene trace P faults.Broken same ends = absurd ends
-  fault_later scene trace P (faults.NoItem other) same ends = absurd ends
-  fault_later scene trace P (faults.WrongState phase) same ends = absurd ends
-  fault_later scene trace P (faults.Stale attempt round) same ends = absurd ends
-  fault_later scene trace P (faults.NotNext place) same ends = absurd ends
-  fault_later scene trace P (faults.PastEnd end) same ends = absurd ends
-  fault_later scene trace P (faults.CheckpointDue bytes) same ends = absurd ends
-  fault_later scene trace P (faults.ItemsFull count) same ends = absurd ends
-  fault_later scene trace P (faults.WordTaken other) same ends = absurd ends
-  fault_later scene trace P (faults.Damaged place) same ends = absurd ends
+  fault_later : (came : Bool) (scene : Scene D O) (trace : Trace) (P : Cause → Type 0) (fault : DeskFault) → scene.start ≡ old → FaultEnds came tells clock says far counts scene new trace P fault → Later
+  fault_later came scene trace P (faults.File kind) same ends = subst (λ (v : View D O). GoesBehind counts v new) same (ends.1.1.goes.later, (_, ends.1.1.goes.went.list_is))
+  fault_later came scene trace P (faults.Journal kind) same ends = subst (λ (v : View D O). GoesBehind counts v new) same (ends.1.goes.later, (_, ends.1.goes.went.list_is))
+  fault_later came scene trace P faults.NoMemory same ends = subst (λ (v : View D O). GoesBehind counts v new) same (ends.1.goes.later, (_, ends.1.goes.went.list_is))
+  fault_later came scene trace P faults.Broken same ends = absurd ends
+  fault_later came scene trace P (faults.NoItem other) same ends = absurd ends
+  fault_later came scene trace P (faults.WrongState phase) same ends = absurd ends
+  fault_later came scene trace P (faults.Stale attempt round) same ends = absurd ends
+  fault_later came scene trace P (faults.NotNext place) same ends = absurd ends
+  fault_later came scene trace P (faults.PastEnd end) same ends = absurd ends
+  fault_later came scene trace P (faults.CheckpointDue bytes) same ends = absurd ends
+  fault_later came scene trace P (faults.ItemsFull count) same ends = absurd ends
+  fault_later came scene trace P (faults.WordTaken other) same ends = absurd ends
+  fault_later came scene trace P (faults.Damaged place) same ends = absurd ends
 
   refused_later : (fault : DeskFault) → BeginRefuses tells clock counts old new id by at fault → Later
   refused_later faults.Broken why = same_counts counts old new why.same
@@ -83,16 +83,16 @@ module _ {D O : Type 0} (tells : Type 0) (clock : D → Clock) (says : O → Say
   refused_later (faults.WordTaken other) why = absurd why
   refused_later (faults.Damaged place) why = absurd why
 
-  ended_later : (scene : Scene D O) (pass : Pass) (trace : Trace) (end : Ended) → scene.start ≡ old → EndedBy tells clock says far counts net scene pass new before after trace end → Later
-  ended_later scene pass trace ended.Complete same ends = subst (λ (v : View D O). GoesBehind counts v new) same (ends.over.goes.later, (_, ends.over.goes.went.list_is))
-  ended_later scene pass trace (ended.Stopped reason) same ends = subst (λ (v : View D O). GoesBehind counts v new) same (ends.over.goes.later, (_, ends.over.goes.went.list_is))
-  ended_later scene pass trace (ended.Fault fault) same ends = fault_later scene trace (λ cause. IsDeskCause tells clock says far counts scene pass trace cause ⊎ MetAtNet net before after scene trace cause) fault same ends
+  ended_later : (came : Bool) (scene : Scene D O) (pass : Pass) (trace : Trace) (end : Ended) → scene.start ≡ old → EndedBy came tells clock says far counts net scene pass new before after trace end → Later
+  ended_later came scene pass trace ended.Complete same ends = subst (λ (v : View D O). GoesBehind counts v new) same (ends.over.goes.later, (_, ends.over.goes.went.list_is))
+  ended_later came scene pass trace (ended.Stopped reason) same ends = subst (λ (v : View D O). GoesBehind counts v new) same (ends.over.goes.later, (_, ends.over.goes.went.list_is))
+  ended_later came scene pass trace (ended.Fault fault) same ends = fault_later came scene trace (λ cause. IsDeskCause tells clock says far counts scene pass trace cause ⊎ MetAtNet net before after scene trace cause) fault same ends
 
   -- over one attempt
   pub attempt_later : (end : Ended) → Attempts tells clock says far counts net old new was closed before after id by slices at end → Later
   attempt_later end (wanting is same still) = same_counts counts old new same
   attempt_later end (refused fault is why still) = refused_later fault why
-  attempt_later end (tried found) = ended_later (scene_of old found.item by at was before) (pass_of found.item) found.is.trace end refl found.is.ends
+  attempt_later end (tried found) = ended_later found.is.came (scene_of old found.item by at was before) (pass_of found.item) found.is.trace end refl found.is.ends
 
   -- what an attempt had of connections comes behind those before
   pub attempt_closed : (end : Ended) → Attempts tells clock says far counts net old new was closed before after id by slices at end → net → (more : List Closed) × (closed ≡ was ++ more)

@@ -113,20 +113,20 @@ module _ {D O : Type 0} (tells : Type 0) (clock : D → Clock) (says : O → Say
       (run_item item.id.0 es old.items item (own_all scene trace stopped.cause) (subst (λ (k : ℕ). item_in k old.items.items ≡ Some item) (sym own) found.there)) in
       ap autos_of there ∙ autos_all scene trace stopped.cause ∙ ap (λ (i : Option Item). autos_after by (autos_of i)) (sym found.there)
 
-  fault_origin : (scene : Scene D O) (trace : Trace) (P : Cause → Type 0) (fault : DeskFault) → scene.start ≡ old → FaultEnds tells clock says far counts scene new trace P fault → new.origin ≡ old.origin
-  fault_origin scene trace P (faults.File kind) same ends = ends.1.1.goes.went.origin ∙ ap (λ (v : View D O). v.origin) same
-  fault_origin scene trace P (faults.Journal kind) same ends = ends.1.goes.went.origin ∙ ap (λ (v : View D O). v.origin) same
-  fault_origin scene trace P faults.NoMemory same ends = ends.1.goes.went.origin ∙ ap (λ (v : View D O). v.origin) same
-  fault_origin scene trace P faults.Broken same ends = absurd ends
-  fault_origin scene trace P (faults.NoItem other) same ends = absurd ends
-  fault_origin scene trace P (faults.WrongState phase) same ends = absurd ends
-  fault_origin scene trace P (faults.Stale attempt round) same ends = absurd ends
-  fault_origin scene trace P (faults.NotNext place) same ends = absurd ends
-  fault_origin scene trace P (faults.PastEnd end) same ends = absurd ends
-  fault_origin scene trace P (faults.CheckpointDue bytes) same ends = absurd ends
-  fault_origin scene trace P (faults.ItemsFull count) same ends = absurd ends
-  fault_origin scene trace P (faults.WordTaken other) same ends = absurd ends
-  fault_origin scene trace P (faults.Damaged place) same ends = absurd ends
+  fault_origin : (came : Bool) (scene : Scene D O) (trace : Trace) (P : Cause → Type 0) (fault : DeskFault) → scene.start ≡ old → FaultEnds came tells clock says far counts scene new trace P fault → new.origin ≡ old.origin
+  fault_origin came scene trace P (faults.File kind) same ends = ends.1.1.goes.went.origin ∙ ap (λ (v : View D O). v.origin) same
+  fault_origin came scene trace P (faults.Journal kind) same ends = ends.1.goes.went.origin ∙ ap (λ (v : View D O). v.origin) same
+  fault_origin came scene trace P faults.NoMemory same ends = ends.1.goes.went.origin ∙ ap (λ (v : View D O). v.origin) same
+  fault_origin came scene trace P faults.Broken same ends = absurd ends
+  fault_origin came scene trace P (faults.NoItem other) same ends = absurd ends
+  fault_origin came scene trace P (faults.WrongState phase) same ends = absurd ends
+  fault_origin came scene trace P (faults.Stale attempt round) same ends = absurd ends
+  fault_origin came scene trace P (faults.NotNext place) same ends = absurd ends
+  fault_origin came scene trace P (faults.PastEnd end) same ends = absurd ends
+  fault_origin came scene trace P (faults.CheckpointDue bytes) same ends = absurd ends
+  fault_origin came scene trace P (faults.ItemsFull count) same ends = absurd ends
+  fault_origin came scene trace P (faults.WordTaken other) same ends = absurd ends
+  fault_origin came scene trace P (faults.Damaged place) same ends = absurd ends
 
   refused_origin : (fault : DeskFault) → BeginRefuses tells clock counts old new id by at fault → new.origin ≡ old.origin
   refused_origin faults.Broken why = ap (λ (v : View D O). v.origin) why.same
@@ -143,13 +143,13 @@ module _ {D O : Type 0} (tells : Type 0) (clock : D → Clock) (says : O → Say
   refused_origin (faults.WordTaken other) why = absurd why
   refused_origin (faults.Damaged place) why = absurd why
 
-  ended_origin : (scene : Scene D O) (pass : Pass) (trace : Trace) (end : Ended) → scene.start ≡ old → EndedBy tells clock says far counts net scene pass new before after trace end → new.origin ≡ old.origin
-  ended_origin scene pass trace ended.Complete same ends = ends.over.goes.went.origin ∙ ap (λ (v : View D O). v.origin) same
-  ended_origin scene pass trace (ended.Stopped reason) same ends = ends.over.goes.went.origin ∙ ap (λ (v : View D O). v.origin) same
-  ended_origin scene pass trace (ended.Fault fault) same ends = fault_origin scene trace (λ cause. IsDeskCause tells clock says far counts scene pass trace cause ⊎ MetAtNet net before after scene trace cause) fault same ends
+  ended_origin : (came : Bool) (scene : Scene D O) (pass : Pass) (trace : Trace) (end : Ended) → scene.start ≡ old → EndedBy came tells clock says far counts net scene pass new before after trace end → new.origin ≡ old.origin
+  ended_origin came scene pass trace ended.Complete same ends = ends.over.goes.went.origin ∙ ap (λ (v : View D O). v.origin) same
+  ended_origin came scene pass trace (ended.Stopped reason) same ends = ends.over.goes.went.origin ∙ ap (λ (v : View D O). v.origin) same
+  ended_origin came scene pass trace (ended.Fault fault) same ends = fault_origin came scene trace (λ cause. IsDeskCause tells clock says far counts scene pass trace cause ⊎ MetAtNet net before after scene trace cause) fault same ends
 
   -- an attempt leaves the desk's origin
   pub origin_stays : (end : Ended) → Attempts tells clock says far counts net old new was closed before after id by slices at end → new.origin ≡ old.origin
   origin_stays end (wanting is same still) = ap (λ (v : View D O). v.origin) same
   origin_stays end (refused fault is why still) = refused_origin fault why
-  origin_stays end (tried found) = ended_origin (scene_of old found.item by at was before) (pass_of found.item) found.is.trace end refl found.is.ends
+  origin_stays end (tried found) = ended_origin found.is.came (scene_of old found.item by at was before) (pass_of found.item) found.is.trace end refl found.is.ends

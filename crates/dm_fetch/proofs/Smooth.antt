@@ -1,5 +1,5 @@
 -- Where nothing fails and all is served, few causes stop an attempt.
-use Rattle.std.proofs.Common.{◌≡◌, ◌≢◌, ◌⊎◌, inl, inr, ◌≤◌, ℕ, length, length-append, List, [], ◌∷◌, ◌++◌, map, Option, Some, None, refl, sym, ◌∙◌, ap, subst, arith}
+use Rattle.std.proofs.Common.{◌≡◌, ◌≢◌, ◌⊎◌, inl, inr, ◌≤◌, ℕ, length, length-append, List, [], ◌∷◌, ◌++◌, map, Option, Some, None, refl, sym, ◌∙◌, ap, subst, arith, Bool}
 use Rattle.std.specs.Prelude.{IfSome}
 use Rattle.sha2.specs.Sha256.{sha256}
 use Rattle.std.specs.List.{AllByRecursion, Contains}
@@ -218,20 +218,20 @@ module _ {D O : Type 0} (tells : Type 0) (clock : D → Clock) (says : O → Say
   sound_item : IsSound smooth.item
   sound_item = sound_in smooth.history old.items id.0 smooth.item smooth.holds.items smooth.there
 
-  fault_left : (scene : Scene D O) → scene.start ≡ old → (trace : Trace) (P : Cause → Type 0) (fault : DeskFault) → FaultEnds tells clock says far counts scene new trace P fault → fault ≡ faults.NoMemory
-  fault_left scene same trace P (faults.File kind) ends = absurd (smooth.disk kind (subst (λ (v : View D O). Rose (counts v.disk kind) (counts new.disk kind)) same ends.0))
-  fault_left scene same trace P (faults.Journal kind) ends = absurd (smooth.disk kind (subst (λ (v : View D O). Rose (counts v.disk kind) (counts new.disk kind)) same ends.0))
-  fault_left scene same trace P faults.NoMemory ends = refl
-  fault_left scene same trace P faults.Broken ends = absurd ends
-  fault_left scene same trace P (faults.NoItem other) ends = absurd ends
-  fault_left scene same trace P (faults.WrongState phase) ends = absurd ends
-  fault_left scene same trace P (faults.Stale attempt round) ends = absurd ends
-  fault_left scene same trace P (faults.NotNext place) ends = absurd ends
-  fault_left scene same trace P (faults.PastEnd end) ends = absurd ends
-  fault_left scene same trace P (faults.CheckpointDue bytes) ends = absurd ends
-  fault_left scene same trace P (faults.ItemsFull count) ends = absurd ends
-  fault_left scene same trace P (faults.WordTaken other) ends = absurd ends
-  fault_left scene same trace P (faults.Damaged place) ends = absurd ends
+  fault_left : (came : Bool) (scene : Scene D O) → scene.start ≡ old → (trace : Trace) (P : Cause → Type 0) (fault : DeskFault) → FaultEnds came tells clock says far counts scene new trace P fault → fault ≡ faults.NoMemory
+  fault_left came scene same trace P (faults.File kind) ends = absurd (smooth.disk kind (subst (λ (v : View D O). Rose (counts v.disk kind) (counts new.disk kind)) same ends.0))
+  fault_left came scene same trace P (faults.Journal kind) ends = absurd (smooth.disk kind (subst (λ (v : View D O). Rose (counts v.disk kind) (counts new.disk kind)) same ends.0))
+  fault_left came scene same trace P faults.NoMemory ends = refl
+  fault_left came scene same trace P faults.Broken ends = absurd ends
+  fault_left came scene same trace P (faults.NoItem other) ends = absurd ends
+  fault_left came scene same trace P (faults.WrongState phase) ends = absurd ends
+  fault_left came scene same trace P (faults.Stale attempt round) ends = absurd ends
+  fault_left came scene same trace P (faults.NotNext place) ends = absurd ends
+  fault_left came scene same trace P (faults.PastEnd end) ends = absurd ends
+  fault_left came scene same trace P (faults.CheckpointDue bytes) ends = absurd ends
+  fault_left came scene same trace P (faults.ItemsFull count) ends = absurd ends
+  fault_left came scene same trace P (faults.WordTaken other) ends = absurd ends
+  fault_left came scene same trace P (faults.Damaged place) ends = absurd ends
 
   abbrev scene : Scene D O
   scene = scene_of old smooth.item by at was before
@@ -286,7 +286,7 @@ module _ {D O : Type 0} (tells : Type 0) (clock : D → Clock) (says : O → Say
   tried_left ended.Complete done = inl refl
   tried_left (ended.Fault fault) done =
       inr (inl (ap (λ (f : DeskFault). ended.Fault f)
-      (fault_left scene refl done.trace (λ cause. IsDeskCause tells clock says far counts scene (pass_of smooth.item) done.trace cause ⊎ MetAtNet net before after scene done.trace cause) fault done.ends)))
+      (fault_left done.came scene refl done.trace (λ cause. IsDeskCause tells clock says far counts scene (pass_of smooth.item) done.trace cause ⊎ MetAtNet net before after scene done.trace cause) fault done.ends)))
   tried_left (ended.Stopped reason) done = stopped_left reason done
 
   -- it is refused for want of memory alone

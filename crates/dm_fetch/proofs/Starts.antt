@@ -96,7 +96,7 @@ module _ {D O : Type 0} (tells : Type 0) (clock : D → Clock) (says : O → Say
 
     -- the journal failed at one of these
     fell_at_once : (cause : Cause) (tries more : History) → Fell old new tries → (closed : List Closed) (before : NetFault → ℕ) → tries ++ more ≡ all_entries (scene_of old item by at closed before) (untold [] [] 0) (Broken cause)
-        → ShowsClose tells clock says far counts (scene_of old item by at closed before) new (untold [] [] 0) NoCause (Broken cause) → DeskFell tells clock says far counts (scene_of old item by at closed before) new (untold [] [] 0) NoCause
+        → ShowsClose false tells clock says far counts (scene_of old item by at closed before) new (untold [] [] 0) NoCause (Broken cause) → DeskFell false tells clock says far counts (scene_of old item by at closed before) new (untold [] [] 0) NoCause
     fell_at_once cause tries more fell closed before is shows =
         let scene = scene_of old item by at closed before in
         let parts : (fell.recorded ++ fell.entry ∷ fell.rest) ++ more ≡ (fell.recorded ++ fell.entry ∷ []) ++ (fell.rest ++ more) = simp append_assoc in
@@ -105,6 +105,7 @@ module _ {D O : Type 0} (tells : Type 0) (clock : D → Clock) (says : O → Say
           led_is = refl;
           lost_is = refl;
           rounds_are = refl;
+          told_is = inl refl;
           close = Broken cause;
           seen = [];
           shows = shows;
@@ -117,14 +118,14 @@ module _ {D O : Type 0} (tells : Type 0) (clock : D → Clock) (says : O → Say
         }
 
     pub fell_behind : (behind : History) → BeginsTail tells clock counts old.disk new.disk item behind → Fell old new (beginning item by at ++ behind) → (closed : List Closed) (before : NetFault → ℕ)
-        → DeskFell tells clock says far counts (scene_of old item by at closed before) new (untold [] [] 0) NoCause
+        → DeskFell false tells clock says far counts (scene_of old item by at closed before) new (untold [] [] 0) NoCause
     fell_behind behind (inl none) fell closed before =
         fell_at_once causes.Memory (beginning item by at ++ behind) (entries.Broke item.id (reason_of_cause causes.Memory) ∷ []) fell closed before
         (ap (λ (h : History). (beginning item by at ++ h) ++ entries.Broke item.id (reason_of_cause causes.Memory) ∷ []) none ∙ ap (λ (h : History). h ++ entries.Broke item.id (reason_of_cause causes.Memory) ∷ []) (append-nil (beginning item by at)))
         (inl refl)
     fell_behind behind (inr why) fell closed before = by_why why.1
       where
-        by_why : ((behind ≡ too_short item.id) × IsPartShort tells clock old.disk item) ⊎ FileBroke (counts old.disk) (counts new.disk) item.id behind → DeskFell tells clock says far counts (scene_of old item by at closed before) new (untold [] [] 0) NoCause
+        by_why : ((behind ≡ too_short item.id) × IsPartShort tells clock old.disk item) ⊎ FileBroke (counts old.disk) (counts new.disk) item.id behind → DeskFell false tells clock says far counts (scene_of old item by at closed before) new (untold [] [] 0) NoCause
         by_why (inl short) =
             fell_at_once (causes.PartShort short.1.have short.1.wanted) (beginning item by at ++ behind) [] fell closed before
             (append-nil (beginning item by at ++ behind) ∙ ap (λ (h : History). beginning item by at ++ h) short.0)

@@ -1,5 +1,5 @@
 -- One attempt: what it asked for, what it did at the desk, and how it ended, by one witness.
-use Rattle.std.specs.Prelude.{◌≡◌, ◌⊎◌, ◌≤◌, ℕ, List, [], length, Option, Some, None, IfSome}
+use Rattle.std.specs.Prelude.{◌≡◌, ◌≢◌, ◌⊎◌, ◌≤◌, ℕ, List, [], length, Option, Some, None, IfSome, Bool, IsTrue}
 use Rattle.dm_types.specs.declared.address.Address.{Address}
 use Rattle.dm_types.specs.declared.item.Item.{Item}
 use Rattle.dm_types.specs.declared.item.ItemId.{ItemId}
@@ -109,8 +109,9 @@ pub record IsUnread {D O : Type 0} (scene : Scene D O) (cause : Cause) : Type 0 
 abbrev pub MetAtNet : {D O : Type 0} → Type 0 → (NetFault → ℕ) → (NetFault → ℕ) → Scene D O → Trace → Cause → Type 0
 MetAtNet net before after scene trace cause = IsUnread scene cause ⊎ IsShown net before after scene trace cause
 
--- All was brought, and the attempt is over by that.
+-- All was brought, in one round at least, and the attempt is over by that.
 pub record IsFinished {D O : Type 0} (tells : Type 0) (clock : D → Clock) (says : O → Says) (far : D → ℕ) (counts : D → DiskKind → ℕ) (scene : Scene D O) (pass : Pass) (new : View D O) (trace : Trace) : Type 0 where
+  pub some : trace.rounds ≢ []
   pub digest : List ℕ
   pub done : DeskDone tells clock says far counts scene pass trace digest
   pub saves : List (List Slice)
@@ -129,12 +130,12 @@ pub record WasStopped {D O : Type 0} (tells : Type 0) (clock : D → Clock) (say
   pub met : IsMetBy tells clock says far counts net scene pass before after trace saves cause
   pub over : DeskOver tells clock says far counts scene new (with_saves trace saves) (Broken cause)
 
--- how each answer came
-abbrev pub EndedBy : {D O : Type 0} → Type 0 → (D → Clock) → (O → Says) → (D → ℕ) → (D → DiskKind → ℕ) → Type 0 → Scene D O → Pass → View D O → (NetFault → ℕ) → (NetFault → ℕ) → Trace → Ended → Type 0
-EndedBy tells clock says far counts net scene pass new before after trace ended.Complete = IsFinished tells clock says far counts scene pass new trace
-EndedBy tells clock says far counts net scene pass new before after trace (ended.Stopped reason) = WasStopped tells clock says far counts net scene pass new before after trace reason
-EndedBy tells clock says far counts net scene pass new before after trace (ended.Fault fault) =
-    FaultEnds tells clock says far counts scene new trace (λ cause. IsDeskCause tells clock says far counts scene pass trace cause ⊎ MetAtNet net before after scene trace cause) fault
+-- how each answer was reached, perhaps while what came was finished
+abbrev pub EndedBy : {D O : Type 0} → Bool → Type 0 → (D → Clock) → (O → Says) → (D → ℕ) → (D → DiskKind → ℕ) → Type 0 → Scene D O → Pass → View D O → (NetFault → ℕ) → (NetFault → ℕ) → Trace → Ended → Type 0
+EndedBy came tells clock says far counts net scene pass new before after trace ended.Complete = IsFinished tells clock says far counts scene pass new trace
+EndedBy came tells clock says far counts net scene pass new before after trace (ended.Stopped reason) = WasStopped tells clock says far counts net scene pass new before after trace reason
+EndedBy came tells clock says far counts net scene pass new before after trace (ended.Fault fault) =
+    FaultEnds came tells clock says far counts scene new trace (λ cause. IsDeskCause tells clock says far counts scene pass trace cause ⊎ MetAtNet net before after scene trace cause) fault
 
 -- all rounds of an attempt that is complete were brought whole, and of another one all but the newest
 abbrev pub RoundsOf : Type 0 → Ended → Asking → List Round → Type 0
@@ -142,12 +143,16 @@ RoundsOf net ended.Complete = AreRead net
 RoundsOf net (ended.Stopped reason) = AreCut net
 RoundsOf net (ended.Fault fault) = AreCut net
 
--- The attempt was begun: by one trace it asked for what it asked, had these connections and no others, and ended so.
+-- The attempt was begun: by one trace it asked for what it asked, had these connections and no others, and ended so. What came was finished only where there
+-- is a round, and all were brought whole.
 pub record TriedBy {D O : Type 0} (tells : Type 0) (clock : D → Clock) (says : O → Says) (far : D → ℕ) (counts : D → DiskKind → ℕ) (net : Type 0) (scene : Scene D O) (pass : Pass) (new : View D O) (closed : List Closed) (before after : NetFault → ℕ) (slices : ℕ) (end : Ended) : Type 0 where
   pub trace : Trace
   pub asks : Asks tells clock says far counts net scene pass slices (RoundsOf net end) trace
   pub closed_is : net → closed ≡ closed_before scene trace
-  pub ends : EndedBy tells clock says far counts net scene pass new before after trace end
+  pub came : Bool
+  pub some : IsTrue came → trace.rounds ≢ []
+  pub all : IsTrue came → Asks tells clock says far counts net scene pass slices (AreRead net) trace
+  pub ends : EndedBy came tells clock says far counts net scene pass new before after trace end
 
 abbrev pub Tried : {D O : Type 0} → Type 0 → (D → Clock) → (O → Says) → (D → ℕ) → (D → DiskKind → ℕ) → Type 0 → View D O → View D O → List Closed → List Closed → (NetFault → ℕ) → (NetFault → ℕ) → By → ℕ → ℕ → Ended → Item → Type 0
 Tried tells clock says far counts net old new was closed before after by slices at end item = TriedBy tells clock says far counts net (scene_of old item by at was before) (pass_of item) new closed before after slices end

@@ -1,5 +1,5 @@
 -- The asking and reading of an attempt, before it is ended.
-use Rattle.std.specs.Prelude.{◌≡◌, ℕ, List, [], Some, None, Result, Ok, Err}
+use Rattle.std.specs.Prelude.{◌≡◌, ◌≢◌, ℕ, List, [], Some, None, Result, Ok, Err, Bool, IsTrue}
 use Rattle.dm_types.specs.declared.address.Address.{Address}
 use Rattle.dm_types.specs.declared.item.Item.{Item}
 use Rattle.dm_types.specs.declared.kinds.DiskKind.{DiskKind}
@@ -97,12 +97,15 @@ pub record DriveDone {D O : Type 0} (tells : Type 0) (clock : D → Clock) (says
   pub closed_is : net → closed ≡ closed_before scene trace
   pub finished : IsFinished tells clock says far counts scene pass new trace
 
--- the attempt stopped, and is to be ended
+-- The attempt stopped, and is to be ended. The desk was asked to finish only where there is a round, and all were brought whole.
 pub record DriveStops {D O : Type 0} (tells : Type 0) (clock : D → Clock) (says : O → Says) (far : D → ℕ) (counts : D → DiskKind → ℕ) (net : Type 0) (scene : Scene D O) (pass : Pass) (new : View D O) (closed : List Closed) (before after : NetFault → ℕ) (slices : ℕ) (stop : Stop) : Type 0 where
   pub trace : Trace
   pub asks : Asks tells clock says far counts net scene pass slices (AreCut net) trace
   pub closed_is : net → closed ≡ closed_before scene trace
-  pub holds : StopHolds tells clock says far counts scene pass new trace stop
+  pub came : Bool
+  pub some : IsTrue came → trace.rounds ≢ []
+  pub all : IsTrue came → Asks tells clock says far counts net scene pass slices (AreRead net) trace
+  pub holds : StopHolds came tells clock says far counts scene pass new trace stop
   pub shown : IfBroke stop (MetAtNet net before after scene trace)
 
 abbrev pub DriveLeaves : {D O : Type 0} → Type 0 → (D → Clock) → (O → Says) → (D → ℕ) → (D → DiskKind → ℕ) → Type 0 → Scene D O → Pass → View D O → List Closed → (NetFault → ℕ) → (NetFault → ℕ) → ℕ → Result (Unit {0}) Stop → Type 0

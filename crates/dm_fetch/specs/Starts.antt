@@ -1,5 +1,5 @@
 -- How an attempt begins at a desk.
-use Rattle.std.specs.Prelude.{◌≡◌, ◌≤◌, ℕ, List, [], length, None, Some, Result, Ok, Err}
+use Rattle.std.specs.Prelude.{◌≡◌, ◌≤◌, ℕ, List, [], length, None, Some, Result, Ok, Err, false}
 use Rattle.dm_types.specs.declared.item.Item.{Item}
 use Rattle.dm_types.specs.declared.item.ItemId.{ItemId}
 use Rattle.dm_types.specs.declared.item.Key.TheVariants.{Strong}
@@ -72,7 +72,7 @@ pub record StartsShort {D O : Type 0} (tells : Type 0) (clock : D → Clock) (sa
 
 -- a call on the disk failed, and the attempt is over by that
 pub record StartsFailing {D O : Type 0} (tells : Type 0) (clock : D → Clock) (says : O → Says) (far : D → ℕ) (counts : D → DiskKind → ℕ) (old new : View D O) (by : By) (at : ℕ) (fault : DeskFault) (item : Item) : Type 0 where
-  pub ends : (closed : List Closed) (before : NetFault → ℕ) → FaultLeaves tells clock says far counts (scene_of old item by at closed before) new (untold [] [] 0) fault
+  pub ends : (closed : List Closed) (before : NetFault → ℕ) → FaultLeaves false tells clock says far counts (scene_of old item by at closed before) new (untold [] [] 0) fault
 
 -- Why no attempt runs.
 pub data StartEnds {D O : Type 0} (tells : Type 0) (clock : D → Clock) (says : O → Says) (far : D → ℕ) (counts : D → DiskKind → ℕ) (old new : View D O) (id : ItemId) (by : By) (at : ℕ) (end : Ended) : Type 0 where

@@ -1,5 +1,6 @@
 -- An attempt that brings its content anew, as its trace tells it.
-use Rattle.std.proofs.Common.{◌≡◌, ◌⊎◌, inl, inr, ◌≤◌, ◌^◌, ℕ, List, [], ◌∷◌, ◌++◌, length, drop, Option, Some, None, Result, Ok, Err, IsTrue, refl, sym, ◌∙◌, ap, subst, arith, append_assoc}
+use Rattle.std.proofs.Common.{◌≡◌, ◌⊎◌, inl, inr, ◌≤◌, ◌^◌, ℕ, List, [], ◌∷◌, ◌++◌, length, drop, Option, Some, None, Result, Ok, Err, IsTrue, refl, sym, ◌∙◌, ap, subst, arith, append_assoc, false}
+use Rattle.std.proofs.lemmas.Bool.{false≢true}
 use Rattle.std.specs.Prelude.{IfSome}
 use Rattle.std.specs.List.{Contains}
 use Rattle.std.proofs.lemmas.List.{append-nil}
@@ -66,7 +67,7 @@ module _ {D O : Type 0} (tells : Type 0) (clock : D → Clock) (says : O → Say
     planned = record { saves = tt; rounds = tt; placed = tt };
   }
 
-  untold_holds : (desk : View D O) (lost : List Closed) (stop : Stop) → IsOfNet stop → LiveDesk tells clock says far counts scene pass desk (untold [] [] 0) → StopHolds tells clock says far counts scene pass desk (untold [] lost 0) stop
+  untold_holds : (desk : View D O) (lost : List Closed) (stop : Stop) → IsOfNet stop → LiveDesk tells clock says far counts scene pass desk (untold [] [] 0) → StopHolds false tells clock says far counts scene pass desk (untold [] lost 0) stop
   untold_holds desk lost (stops.Broke cause) own live = untold_any desk [] lost 0 live
   untold_holds desk lost stops.NoMemory own live = untold_any desk [] lost 0 live
   untold_holds desk lost (stops.Fault fault) own live = absurd own
@@ -122,7 +123,7 @@ module _ {D O : Type 0} (tells : Type 0) (clock : D → Clock) (says : O → Say
       pub fresh_stops : (before now : NetFault → ℕ) (stop : Stop) → RunStops tells clock says far counts net scene pass present closed before now older (first_asking pass tale) stop
           → FreshStops tells clock says far counts net scene pass old present closed before now first handed slices stop
       fresh_stops before now stop stopped =
-          record { trace = stopped.trace; fresh = fresh_later older stopped.trace stopped.from (inr (stopped.from.lost_is ∙ none_lost)) fresh; replied = run_replied stopped.trace stopped.from stopped.served; rounds = told_rounds (AreCut net) stopped.trace stopped.from stopped.rounds; stopped = stopped.stopped }
+          record { trace = stopped.trace; fresh = fresh_later older stopped.trace stopped.from (inr (stopped.from.lost_is ∙ none_lost)) fresh; replied = run_replied stopped.trace stopped.from stopped.served; rounds = told_rounds (AreCut net) stopped.trace stopped.from stopped.rounds; stopped = stopped.stopped; all = λ came. told_rounds (AreRead net) stopped.trace stopped.from (stopped.all came) }
 
     -- ---- no content was reached
     front_sent : (Cuts : Cause → Type 0) (request sent : List ℕ) (cause : Cause) → SentUntil Cuts request sent cause → IsFrontSent request sent
@@ -187,9 +188,12 @@ module _ {D O : Type 0} (tells : Type 0) (clock : D → Clock) (says : O → Say
         rounds = refl;
         stopped = record {
           closed_is = λ n. by_stop (after ≡ start ++ since) all_since stop (stopped n) ∙ ap (λ (l : List Closed). l ++ since) (still n);
+          came = false;
+          some = λ never. absurd (false≢true never);
           holds = untold_holds desk since stop own live;
           shown = none_shown stop counted stopped;
         };
+        all = λ never. absurd (false≢true never);
       }
 
     -- ---- the first reply is there
@@ -275,9 +279,12 @@ module _ {D O : Type 0} (tells : Type 0) (clock : D → Clock) (says : O → Say
         rounds = none_rounds (AreCut net) (λ first. tt) (c ∷ []) none.trace none.before;
         stopped = record {
           closed_is = λ n. closes n ∙ ap (λ (l : List Closed). l ++ c ∷ []) (has.closed_is n) ∙ append_assoc scene.closed led (c ∷ []) ∙ sym (any_closed (c ∷ []) none.trace none.before);
+          came = false;
+          some = λ never. absurd (false≢true never);
           holds = none.holds;
           shown = no_shown stop none.apart;
         };
+        all = λ never. absurd (false≢true never);
       }
         where
           no_shown : (s : Stop) → IsOfDesk s → IfBroke s (IsShown net before now scene none.trace)
@@ -295,7 +302,8 @@ fresh_longer tells clock says far counts net scene pass old present closed befor
   fresh = leaves.fresh;
   replied = leaves.replied;
   rounds = leaves.rounds;
-  stopped = record { closed_is = leaves.stopped.closed_is; holds = leaves.stopped.holds; shown = shown_longer net before between now scene leaves.trace stop earlier leaves.stopped.shown };
+  stopped = record { closed_is = leaves.stopped.closed_is; came = leaves.stopped.came; some = leaves.stopped.some; holds = leaves.stopped.holds; shown = shown_longer net before between now scene leaves.trace stop earlier leaves.stopped.shown };
+  all = leaves.all;
 }
 
 -- the first reply came

@@ -1,5 +1,5 @@
 -- What the first reply tells may be told.
-use Rattle.std.proofs.Common.{◌≡◌, inl, inr, ◌≤◌, ◌^◌, ℕ, List, length, Option, Some, None, Ok, Err, refl, sym, ◌∙◌, ap, subst, arith}
+use Rattle.std.proofs.Common.{◌≡◌, inl, inr, ◌≤◌, ◌^◌, ℕ, List, length, Option, Some, None, Ok, Err, refl, sym, ◌∙◌, ap, subst, arith, false}
 use Rattle.std.specs.Prelude.{IfSome}
 use Rattle.std.proofs.lemmas.Bool.{cases_lt}
 use Rattle.dm_types.specs.declared.address.Address.{Address}
@@ -62,7 +62,7 @@ telling pass handed head address key told plain key_is read is =
     }
 
 module _ {D O : Type 0} (tells : Type 0) (clock : D → Clock) (says : O → Says) (far : D → ℕ) (counts : D → DiskKind → ℕ) (scene : Scene D O) (pass : Pass) (old new : View D O) (led lost : List Closed) (count : ℕ) (handed : List ℕ) (head : Head) (address : Address) (key : Key) where
-  named_holds : (told : Told) (stop : Stop) → DescribeLeaves tells clock says far counts scene pass old new led lost count head told address (Err stop) → StopHolds tells clock says far counts scene pass new (wished led lost count told.wish) stop
+  named_holds : (told : Told) (stop : Stop) → DescribeLeaves tells clock says far counts scene pass old new led lost count head told address (Err stop) → StopHolds false tells clock says far counts scene pass new (wished led lost count told.wish) stop
   named_holds told (stops.Broke cause) leaves = absurd leaves
   named_holds told stops.NoMemory leaves = leaves
   named_holds told (stops.Fault fault) leaves = leaves

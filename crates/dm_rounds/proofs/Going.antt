@@ -1,5 +1,5 @@
 -- What a turn leaves of the attempt.
-use Rattle.std.proofs.Common.{◌≡◌, ◌≤◌, ℕ, ◌+◌, List, ◌++◌, length, take, Ok, Err, refl, sym, ◌∙◌, ap, subst}
+use Rattle.std.proofs.Common.{◌≡◌, ◌≤◌, ℕ, ◌+◌, List, ◌++◌, length, take, Ok, Err, refl, sym, ◌∙◌, ap, subst, false}
 use Rattle.std.proofs.lemmas.Option.{same_Some}
 use Rattle.dm_types.specs.declared.item.Item.{Item}
 use Rattle.dm_types.specs.declared.item.Key.{Key}
@@ -82,7 +82,7 @@ module _ {D O W : Type 0} (tells : Type 0) (clock : D → Clock) (says : O → S
           (landed_says wires made_for told asking.key shares old new turn.ready part wanted stays n room buffer moves within limit counted bounded piece_says is turn_is);
     }
 
-    refused_holds : (trace : Trace) (stop : Stop) → Refused tells clock says far counts scene going.pass desk trace stop → StopHolds tells clock says far counts scene going.pass desk trace stop
+    refused_holds : (trace : Trace) (stop : Stop) → Refused tells clock says far counts scene going.pass desk trace stop → StopHolds false tells clock says far counts scene going.pass desk trace stop
     refused_holds trace (stops.Broke cause) refused = absurd refused
     refused_holds trace stops.NoMemory refused = refused
     refused_holds trace (stops.Fault fault) refused = refused
@@ -126,7 +126,7 @@ module _ {D O W : Type 0} (tells : Type 0) (clock : D → Clock) (says : O → S
       turn_broke cause buffer piece_says = record {
         saves = older.saves;
         holds = by_cause (λ (c : Cause) (stop : Stop). LiveDesk tells clock says far counts scene going.pass desk (opened older (live_round asking cover shares))
-            → StopHolds tells clock says far counts scene going.pass desk (opened older (live_round asking cover shares)) stop) (λ l. l) (λ c l. l) cause live;
+            → StopHolds false tells clock says far counts scene going.pass desk (opened older (live_round asking cover shares)) stop) (λ l. l) (λ c l. l) cause live;
         left = broke_left wires made_for told asking.key shares old new turn.ready part wanted stays cause buffer piece_says;
         stops = λ t. by_cause (λ (c : Cause) (stop : Stop). LaneBroke told shares new c → LaneStops told shares new stop) (λ l. tt) (λ c l. l) cause
             (lane_broke wires made_for told asking.key shares old new turn.ready part wanted stays cause buffer piece_says t);

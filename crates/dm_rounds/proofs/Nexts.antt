@@ -1,5 +1,5 @@
 -- The next round of an attempt, open or given up.
-use Rattle.std.proofs.Common.{◌≡◌, inl, ◌<◌, ℕ, ◌+◌, zero, suc, List, [], ◌∷◌, length, map, get_or, Some, Ok, Err, refl, sym, ◌∙◌, ap, subst, arith}
+use Rattle.std.proofs.Common.{◌≡◌, inl, ◌<◌, ℕ, ◌+◌, zero, suc, List, [], ◌∷◌, length, map, get_or, Some, Ok, Err, refl, sym, ◌∙◌, ap, subst, arith, false}
 use Rattle.std.specs.Prelude.{slice_get}
 use Rattle.std.proofs.lemmas.List.{length-map}
 use Rattle.dm_types.specs.declared.item.Attempt.{Attempt}
@@ -85,7 +85,7 @@ module _ {D O : Type 0} (tells : Type 0) (clock : D → Clock) (says : O → Say
       };
     }
 
-    holds_by : (stop : Stop) → IsOfNet stop → StopHolds tells clock says far counts scene pass present (opened trace (next_round scene trace asking)) stop
+    holds_by : (stop : Stop) → IsOfNet stop → StopHolds false tells clock says far counts scene pass present (opened trace (next_round scene trace asking)) stop
     holds_by (stops.Broke cause) own = planned.2
     holds_by stops.NoMemory own = planned.2
     holds_by (stops.Fault fault) own = absurd own
@@ -95,7 +95,7 @@ module _ {D O : Type 0} (tells : Type 0) (clock : D → Clock) (says : O → Say
         → LostOpens tells clock says far counts net scene pass present closed before after trace asking source stop
     lost_opens net closed before after source stop own loses = record { holds = holds_by stop own; round = loses }
 
-  pub plan_holds : (stop : Stop) → PlanLeaves tells clock says far counts scene pass present trace asking (Err stop) → StopHolds tells clock says far counts scene pass present trace stop
+  pub plan_holds : (stop : Stop) → PlanLeaves tells clock says far counts scene pass present trace asking (Err stop) → StopHolds false tells clock says far counts scene pass present trace stop
   plan_holds (stops.Broke cause) left = left.2
   plan_holds stops.NoMemory left = left
   plan_holds (stops.Fault fault) left = absurd left

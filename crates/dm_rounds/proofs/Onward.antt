@@ -1,5 +1,6 @@
 -- The next round of an attempt behind those that were read: it is opened, or given up.
-use Rattle.std.proofs.Common.{◌≡◌, ◌⊎◌, inl, inr, ℕ, ◌+◌, List, [], ◌∷◌, ◌++◌, length, map, Option, true, Result, Ok, Err, refl, sym, ◌∙◌, ap, subst, arith, append_assoc}
+use Rattle.std.proofs.Common.{◌≡◌, ◌⊎◌, inl, inr, ℕ, ◌+◌, List, [], ◌∷◌, ◌++◌, length, map, Option, true, Result, Ok, Err, refl, sym, ◌∙◌, ap, subst, arith, append_assoc, false}
+use Rattle.std.proofs.lemmas.Bool.{false≢true}
 use Rattle.std.specs.List.{Contains}
 use Rattle.std.proofs.lemmas.List.Elements.{Contains-append_left, Contains-append_right}
 use Rattle.dm_types.specs.Faults.{NoneFell}
@@ -95,7 +96,8 @@ module _ {D O : Type 0} (tells : Type 0) (clock : D → Clock) (says : O → Say
       from = from;
       rounds = read_cut net first trace.rounds rounds;
       served = served;
-      stopped = record { closed_is = none.still; holds = none.holds; shown = used_up used stop none.why };
+      stopped = record { closed_is = none.still; came = false; some = λ never. absurd (false≢true never); holds = none.holds; shown = used_up used stop none.why };
+      all = λ never. absurd (false≢true never);
     }
 
     module _ (source : Source) (between : NetFault → ℕ) (earlier : NoneFell before between) (lost : LostOpens tells clock says far counts net scene going.pass desk closed between now trace asking source stop) where
@@ -154,9 +156,12 @@ module _ {D O : Type 0} (tells : Type 0) (clock : D → Clock) (says : O → Say
         served = lost_served;
         stopped = record {
           closed_is = λ n. lost.round.round.closed n ∙ closed_more scene.closed trace.led (wires_of trace.rounds) (map (λ (c : Carried). c.connection) lost_wires) trace.lost lost_none;
-          holds = holds_wired tells clock says far counts scene (next_round scene trace asking) lost_wires trace going.pass desk stop lost.holds;
+          came = false;
+          some = λ never. absurd (false≢true never);
+          holds = holds_wired tells clock says far counts scene false (next_round scene trace asking) lost_wires trace going.pass desk stop lost.holds;
           shown = lost_shown stop refl;
         };
+        all = λ never. absurd (false≢true never);
       }
 
     -- whichever
@@ -193,7 +198,8 @@ module _ {D O : Type 0} (tells : Type 0) (clock : D → Clock) (says : O → Say
     from = from_then older mid stopped.trace from stopped.from;
     rounds = stopped.rounds;
     served = stopped.served;
-    stopped = record { closed_is = stopped.stopped.closed_is; holds = stopped.stopped.holds; shown = shown_longer net before between now scene stopped.trace stop earlier stopped.stopped.shown };
+    stopped = record { closed_is = stopped.stopped.closed_is; came = stopped.stopped.came; some = stopped.stopped.some; holds = stopped.stopped.holds; shown = shown_longer net before between now scene stopped.trace stop earlier stopped.stopped.shown };
+    all = stopped.all;
   }
 
 -- an attempt is from itself

@@ -161,7 +161,7 @@ module _ {D O W : Type 0} (tells : Type 0) (clock : D → Clock) (says : O → S
     pub bare_live : LiveDesk tells clock says far counts scene pass desk bare_trace
     bare_live = (planned (c ∷ [])).2
 
-    stop_held : (present : View D O) (stop : Stop) → FinishLeaves tells clock says far counts scene pass desk present bare_trace (Err stop) → StopHolds tells clock says far counts scene pass present bare_trace stop
+    stop_held : (present : View D O) (stop : Stop) → FinishLeaves tells clock says far counts scene pass desk present bare_trace (Err stop) → StopHolds true tells clock says far counts scene pass present bare_trace stop
     stop_held present (stops.Broke cause) left = absurd left
     stop_held present stops.NoMemory left = left
     stop_held present (stops.Fault fault) left = left
@@ -179,7 +179,7 @@ module _ {D O W : Type 0} (tells : Type 0) (clock : D → Clock) (says : O → S
       fresh = bare_fresh;
       replied = bare_replied;
       rounds = bare_read;
-      ended = record { closed_is = bare_closed; digest = left.digest; done = record { desk = desk; live = bare_live; full = left.full; stated = left.stated; sum = left.sum }; saves = left.saves; over = left.over };
+      ended = record { some = λ none. absurd (let e = none in cc); closed_is = bare_closed; digest = left.digest; done = record { desk = desk; live = bare_live; full = left.full; stated = left.stated; sum = left.sum }; saves = left.saves; over = left.over };
     }
     bare_done present false left = absurd (none_planned (total (c ∷ [])) count (least (c ∷ [])) left.0.0 (cover_by scene bare_trace) some (sym (parts_are (c ∷ [])) ∙ no_parts) left.0.1)
 
@@ -190,5 +190,6 @@ module _ {D O W : Type 0} (tells : Type 0) (clock : D → Clock) (says : O → S
       fresh = bare_fresh;
       replied = bare_replied;
       rounds = read_cut net (first_asking pass (tale (c ∷ []))) bare_trace.rounds bare_read;
-      stopped = record { closed_is = bare_closed; holds = stop_held present stop left; shown = none_shown before now present stop left };
+      stopped = record { closed_is = bare_closed; came = true; some = λ came none. absurd (let e = none in cc); holds = stop_held present stop left; shown = none_shown before now present stop left };
+      all = λ came. bare_read;
     }

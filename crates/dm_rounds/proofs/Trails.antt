@@ -1,5 +1,6 @@
 -- What a round makes of an attempt, with its connections.
 use Rattle.std.proofs.Common.{◌≡◌, ◌⊎◌, inr, ◌<◌, ℕ, ◌+◌, List, [], ◌∷◌, ◌++◌, length, map, Bool, true, false, Result, Ok, Err, refl, sym, ◌∙◌, ap, subst, arith, append_assoc}
+use Rattle.std.proofs.lemmas.Bool.{false≢true}
 use Rattle.std.specs.Prelude.{IsSome}
 use Rattle.std.specs.List.{AllByRecursion}
 use Rattle.std.proofs.lemmas.List.{append-nil}
@@ -121,7 +122,7 @@ module _ {D O : Type 0} (tells : Type 0) (clock : D → Clock) (says : O → Say
     pub read_live : LiveDesk tells clock says far counts scene going.pass desk read_trace
     read_live = live_wired tells clock says far counts scene (live_round asking cover goes.after) goes.round.wires (with_saves older goes.saves) going.pass desk goes.live
 
-    stop_held : (after : View D O) (stop : Stop) → FinishLeaves tells clock says far counts scene going.pass desk after read_trace (Err stop) → StopHolds tells clock says far counts scene going.pass after read_trace stop
+    stop_held : (after : View D O) (stop : Stop) → FinishLeaves tells clock says far counts scene going.pass desk after read_trace (Err stop) → StopHolds true tells clock says far counts scene going.pass after read_trace stop
     stop_held after (stops.Broke cause) left = absurd left
     stop_held after stops.NoMemory left = left
     stop_held after (stops.Fault fault) left = left
@@ -142,6 +143,7 @@ module _ {D O : Type 0} (tells : Type 0) (clock : D → Clock) (says : O → Say
       rounds = read_rounds;
       served = read_served;
       ended = record {
+        some = λ none. absurd (let e = none in cc);
         closed_is = read_closed;
         digest = left.digest;
         done = record { desk = desk; live = read_live; full = left.full; stated = left.stated; sum = left.sum };
@@ -156,7 +158,8 @@ module _ {D O : Type 0} (tells : Type 0) (clock : D → Clock) (says : O → Say
       from = read_from;
       rounds = read_cut net first read_trace.rounds read_rounds;
       served = read_served;
-      stopped = record { closed_is = read_closed; holds = stop_held after stop left; shown = none_shown before now after stop left };
+      stopped = record { closed_is = read_closed; came = true; some = λ came none. absurd (let e = none in cc); holds = stop_held after stop left; shown = none_shown before now after stop left };
+      all = λ came. read_rounds;
     }
 
   content_shown : (before now : NetFault → ℕ) (trace : Trace) (wires : List Carried) (after : List Share) (stop : Stop) → NetCounts before now stop → (net → IfBroke stop (SomeBroke wires after))
@@ -180,7 +183,10 @@ module _ {D O : Type 0} (tells : Type 0) (clock : D → Clock) (says : O → Say
         served = served_by stopped.after stopped.round.wires stopped.round.once stopped.round.first stopped.round.each;
         stopped = record {
           closed_is = closed_of_trace stopped.saves stopped.after stopped.round.wires closed stopped.round.closed;
-          holds = holds_wired tells clock says far counts scene (live_round asking cover stopped.after) stopped.round.wires (with_saves older stopped.saves) going.pass desk stop stopped.holds;
+          came = false;
+          some = λ never. absurd (false≢true never);
+          holds = holds_wired tells clock says far counts scene false (live_round asking cover stopped.after) stopped.round.wires (with_saves older stopped.saves) going.pass desk stop stopped.holds;
           shown = content_shown before now trace stopped.round.wires stopped.after stop counted stopped.shown refl;
         };
+        all = λ never. absurd (false≢true never);
       }

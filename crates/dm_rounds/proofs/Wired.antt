@@ -1,5 +1,5 @@
 -- The newest round of an attempt with its connections.
-use Rattle.std.proofs.Common.{◌≡◌, inl, inr, ℕ, List, [], ◌∷◌, ◌++◌, Option, refl, sym, ap, subst}
+use Rattle.std.proofs.Common.{◌≡◌, inl, inr, ℕ, List, [], ◌∷◌, ◌++◌, Option, refl, sym, ap, subst, Bool}
 use Rattle.std.specs.List.{AllByRecursion}
 use Rattle.dm_types.specs.declared.kinds.DiskKind.{DiskKind}
 use Rattle.dm_types.specs.declared.slices.Slice.{Slice}
@@ -98,24 +98,25 @@ module _ {D O : Type 0} (tells : Type 0) (clock : D → Clock) (says : O → Say
   begin_wired : (round : Round) (wires : List Carried) (older : Trace) (cause : Cause) → BeginMet tells clock scene (opened older round) cause → BeginMet tells clock scene (opened_with older round wires) cause
   begin_wired round wires older cause met = absurd (let e = met.none in cc)
 
-  shows_wired : (round : Round) (wires : List Carried) (older : Trace) (desk : View D O) (P : Cause → Type 0) (close : Close) → ShowsClose tells clock says far counts scene desk (opened older round) P close
-      → ShowsClose tells clock says far counts scene desk (opened_with older round wires) P close
-  shows_wired round wires older desk P (Broken cause) (inl memory) = inl memory
-  shows_wired round wires older desk P (Broken cause) (inr (inl own)) = inr (inl own)
-  shows_wired round wires older desk P (Broken cause) (inr (inr (inl file))) = inr (inr (inl file))
-  shows_wired round wires older desk P (Broken cause) (inr (inr (inr (inl met)))) = inr (inr (inr (inl (met_wired round wires older (pass_of scene.item) cause met))))
-  shows_wired round wires older desk P (Broken cause) (inr (inr (inr (inr met)))) = inr (inr (inr (inr (begin_wired round wires older cause met))))
-  shows_wired round wires older desk P (Done total digest) shown = (shown.0, done_wired round wires older (pass_of scene.item) digest shown.1)
+  shows_wired : (came : Bool) (round : Round) (wires : List Carried) (older : Trace) (desk : View D O) (P : Cause → Type 0) (close : Close) → ShowsClose came tells clock says far counts scene desk (opened older round) P close
+      → ShowsClose came tells clock says far counts scene desk (opened_with older round wires) P close
+  shows_wired came round wires older desk P (Broken cause) (inl memory) = inl memory
+  shows_wired came round wires older desk P (Broken cause) (inr (inl own)) = inr (inl own)
+  shows_wired came round wires older desk P (Broken cause) (inr (inr (inl file))) = inr (inr (inl file))
+  shows_wired came round wires older desk P (Broken cause) (inr (inr (inr (inl met)))) = inr (inr (inr (inl (met_wired round wires older (pass_of scene.item) cause met))))
+  shows_wired came round wires older desk P (Broken cause) (inr (inr (inr (inr met)))) = inr (inr (inr (inr (begin_wired round wires older cause met))))
+  shows_wired came round wires older desk P (Done total digest) shown = (shown.0, shown.1, done_wired round wires older (pass_of scene.item) digest shown.2)
 
-  fell_wired : (round : Round) (wires : List Carried) (older : Trace) (desk : View D O) (P : Cause → Type 0) → DeskFell tells clock says far counts scene desk (opened older round) P → DeskFell tells clock says far counts scene desk (opened_with older round wires) P
-  fell_wired round wires older desk P fell = record {
+  fell_wired : (came : Bool) (round : Round) (wires : List Carried) (older : Trace) (desk : View D O) (P : Cause → Type 0) → DeskFell came tells clock says far counts scene desk (opened older round) P → DeskFell came tells clock says far counts scene desk (opened_with older round wires) P
+  fell_wired came round wires older desk P fell = record {
     after = record fell.after { rounds = wired round wires ∷ older.rounds };
     led_is = fell.led_is;
     lost_is = fell.lost_is;
     rounds_are = refl;
+    told_is = fell.told_is;
     close = fell.close;
     seen = fell.seen;
-    shows = shows_wired round wires (with_saves older fell.seen) desk P fell.close fell.shows;
+    shows = shows_wired came round wires (with_saves older fell.seen) desk P fell.close fell.shows;
     recorded = fell.recorded;
     failed = fell.failed;
     rest = fell.rest;
@@ -128,28 +129,28 @@ module _ {D O : Type 0} (tells : Type 0) (clock : D → Clock) (says : O → Say
   cause_wired round wires older pass cause (inl met) = inl (met_wired round wires older pass cause met)
   cause_wired round wires older pass cause (inr met) = inr (begin_wired round wires older cause met)
 
-  fault_wired : (round : Round) (wires : List Carried) (older : Trace) (desk : View D O) (fault : DeskFault) → FaultLeaves tells clock says far counts scene desk (opened older round) fault → FaultLeaves tells clock says far counts scene desk (opened_with older round wires) fault
-  fault_wired round wires older desk (faults.File kind) leaves = (leaves.0, (leaves.1.0, over_wired round wires (with_saves older leaves.1.0) desk (Broken (causes.File kind)) leaves.1.1))
-  fault_wired round wires older desk (faults.Journal kind) leaves = (leaves.0, fell_wired round wires older desk NoCause leaves.1)
-  fault_wired round wires older desk faults.NoMemory leaves = absurd leaves
-  fault_wired round wires older desk faults.Broken leaves = absurd leaves
-  fault_wired round wires older desk (faults.NoItem id) leaves = absurd leaves
-  fault_wired round wires older desk (faults.Stale attempt turn) leaves = absurd leaves
-  fault_wired round wires older desk (faults.WrongState phase) leaves = absurd leaves
-  fault_wired round wires older desk (faults.NotNext place) leaves = absurd leaves
-  fault_wired round wires older desk (faults.PastEnd end) leaves = absurd leaves
-  fault_wired round wires older desk (faults.CheckpointDue bytes) leaves = absurd leaves
-  fault_wired round wires older desk (faults.ItemsFull count) leaves = absurd leaves
-  fault_wired round wires older desk (faults.WordTaken id) leaves = absurd leaves
-  fault_wired round wires older desk (faults.Damaged place) leaves = absurd leaves
+  fault_wired : (came : Bool) (round : Round) (wires : List Carried) (older : Trace) (desk : View D O) (fault : DeskFault) → FaultLeaves came tells clock says far counts scene desk (opened older round) fault → FaultLeaves came tells clock says far counts scene desk (opened_with older round wires) fault
+  fault_wired came round wires older desk (faults.File kind) leaves = (leaves.0, (leaves.1.0, over_wired round wires (with_saves older leaves.1.0) desk (Broken (causes.File kind)) leaves.1.1))
+  fault_wired came round wires older desk (faults.Journal kind) leaves = (leaves.0, fell_wired came round wires older desk NoCause leaves.1)
+  fault_wired came round wires older desk faults.NoMemory leaves = absurd leaves
+  fault_wired came round wires older desk faults.Broken leaves = absurd leaves
+  fault_wired came round wires older desk (faults.NoItem id) leaves = absurd leaves
+  fault_wired came round wires older desk (faults.Stale attempt turn) leaves = absurd leaves
+  fault_wired came round wires older desk (faults.WrongState phase) leaves = absurd leaves
+  fault_wired came round wires older desk (faults.NotNext place) leaves = absurd leaves
+  fault_wired came round wires older desk (faults.PastEnd end) leaves = absurd leaves
+  fault_wired came round wires older desk (faults.CheckpointDue bytes) leaves = absurd leaves
+  fault_wired came round wires older desk (faults.ItemsFull count) leaves = absurd leaves
+  fault_wired came round wires older desk (faults.WordTaken id) leaves = absurd leaves
+  fault_wired came round wires older desk (faults.Damaged place) leaves = absurd leaves
 
   -- and stops so
-  pub holds_wired : (round : Round) (wires : List Carried) (older : Trace) (pass : Pass) (desk : View D O) (stop : Stop) → StopHolds tells clock says far counts scene pass desk (opened older round) stop
-      → StopHolds tells clock says far counts scene pass desk (opened_with older round wires) stop
-  holds_wired round wires older pass desk (stops.Broke cause) holds = live_wired round wires older pass desk holds
-  holds_wired round wires older pass desk stops.NoMemory holds = live_wired round wires older pass desk holds
-  holds_wired round wires older pass desk (stops.Fault fault) holds = fault_wired round wires older desk fault holds
-  holds_wired round wires older pass desk (stops.Recorded reason) holds = record {
+  pub holds_wired : (came : Bool) (round : Round) (wires : List Carried) (older : Trace) (pass : Pass) (desk : View D O) (stop : Stop) → StopHolds came tells clock says far counts scene pass desk (opened older round) stop
+      → StopHolds came tells clock says far counts scene pass desk (opened_with older round wires) stop
+  holds_wired came round wires older pass desk (stops.Broke cause) holds = live_wired round wires older pass desk holds
+  holds_wired came round wires older pass desk stops.NoMemory holds = live_wired round wires older pass desk holds
+  holds_wired came round wires older pass desk (stops.Fault fault) holds = fault_wired came round wires older desk fault holds
+  holds_wired came round wires older pass desk (stops.Recorded reason) holds = record {
     cause = holds.cause;
     reason_is = holds.reason_is;
     met = cause_wired round wires older pass holds.cause holds.met;

@@ -1,5 +1,5 @@
 -- How an attempt takes its first reply: it is told to the desk, and the first round is planned.
-use Rattle.std.specs.Prelude.{◌≡◌, ◌⊎◌, ℕ, List, Result, Ok, Err}
+use Rattle.std.specs.Prelude.{◌≡◌, ◌⊎◌, ℕ, List, Result, Ok, Err, false}
 use Rattle.dm_types.specs.declared.address.Address.{Address}
 use Rattle.dm_types.specs.declared.item.Key.{Key}
 use Rattle.dm_types.specs.declared.kinds.DiskKind.{DiskKind}
@@ -36,7 +36,7 @@ pub record NotTold {D O : Type 0} (tells : Type 0) (clock : D → Clock) (says :
   pub trace : Trace
   pub before : IsBefore led lost count handed head address key trace
   pub apart : IsOfDesk stop
-  pub holds : StopHolds tells clock says far counts scene pass new trace stop
+  pub holds : StopHolds false tells clock says far counts scene pass new trace stop
 
 abbrev pub TellLeaves : {D O : Type 0} → Type 0 → (D → Clock) → (O → Says) → (D → ℕ) → (D → DiskKind → ℕ) → Scene D O → Pass → View D O → View D O → List Closed → List Closed → ℕ → List ℕ → Head → Address → Key → Result (Unit {0}) Stop → Type 0
 TellLeaves tells clock says far counts scene pass old new led lost count handed head address key (Ok done) = HasTold tells clock says far counts scene pass old new led lost count handed head address key
@@ -65,7 +65,7 @@ pub record NotPlanned {D O : Type 0} (tells : Type 0) (clock : D → Clock) (say
   pub before : IsBefore led lost count handed head address key trace
       ⊎ ((told : Told) × IsToldOf handed head address key told × WithNames tells clock old (IsNamedAs led lost count head told address trace))
   pub apart : IsOfDesk stop
-  pub holds : StopHolds tells clock says far counts scene pass new trace stop
+  pub holds : StopHolds false tells clock says far counts scene pass new trace stop
 
 abbrev pub BeginLeaves : {D O : Type 0} → Type 0 → (D → Clock) → (O → Says) → (D → ℕ) → (D → DiskKind → ℕ) → Scene D O → Pass → View D O → View D O → List Closed → List Closed → ℕ → List ℕ → Head → Address → Key → Result (List SlicePass) Stop → Type 0
 BeginLeaves tells clock says far counts scene pass old new led lost count handed head address key (Ok passes) =

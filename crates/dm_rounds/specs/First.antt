@@ -1,5 +1,5 @@
 -- An attempt that brings its content anew: its first reply, which serves the first part.
-use Rattle.std.specs.Prelude.{◌≡◌, ◌⊎◌, ℕ, ◌≤◌, ◌^◌, List, [], ◌∷◌, ◌++◌, length, true, Option, Some, None, is_some, Result, Ok, Err, IfSome}
+use Rattle.std.specs.Prelude.{◌≡◌, ◌⊎◌, ℕ, ◌≤◌, ◌^◌, List, [], ◌∷◌, ◌++◌, length, true, Option, Some, None, is_some, Result, Ok, Err, IfSome, IsTrue}
 use Rattle.dm_types.specs.declared.address.Address.{Address}
 use Rattle.dm_types.specs.declared.kinds.DiskKind.{DiskKind}
 use Rattle.dm_disk_model.specs.Disk.{History as Clock}
@@ -135,13 +135,14 @@ pub record FreshEnds {D O : Type 0} (tells : Type 0) (clock : D → Clock) (says
   pub rounds : ToldRounds (AreRead net) pass trace.told trace.rounds
   pub ended : HasEnded tells clock says far counts net scene pass present closed trace
 
--- it stopped
+-- It stopped. The desk was asked to finish only where all rounds were read whole.
 pub record FreshStops {D O : Type 0} (tells : Type 0) (clock : D → Clock) (says : O → Says) (far : D → ℕ) (counts : D → DiskKind → ℕ) (net : Type 0) (scene : Scene D O) (pass : Pass) (old present : View D O) (closed : List Closed) (before after : NetFault → ℕ) (first : Address) (handed : List ℕ) (slices : ℕ) (stop : Stop) : Type 0 where
   pub trace : Trace
   pub fresh : IsFreshTrace tells clock net old pass first handed slices trace
   pub replied : net → IfSome trace.wish (IsReplyOf pass handed trace)
   pub rounds : ToldRounds (AreCut net) pass trace.told trace.rounds
   pub stopped : HasStopped tells clock says far counts net scene pass present closed before after trace stop
+  pub all : IsTrue stopped.came → ToldRounds (AreRead net) pass trace.told trace.rounds
 
 abbrev pub FreshLeaves : {D O : Type 0} → Type 0 → (D → Clock) → (O → Says) → (D → ℕ) → (D → DiskKind → ℕ) → Type 0 → Scene D O → Pass → View D O → View D O → List Closed → (NetFault → ℕ) → (NetFault → ℕ) → Address → List ℕ → ℕ → Result (Unit {0}) Stop → Type 0
 FreshLeaves tells clock says far counts net scene pass old present closed before after first handed slices (Ok done) = FreshEnds tells clock says far counts net scene pass old present closed first handed slices

@@ -1,5 +1,5 @@
 -- The reading of a round, and what a turn leaves of it.
-use Rattle.std.specs.Prelude.{◌≡◌, ◌≤◌, ℕ, ◌+◌, List, [], ◌++◌, length, Some, is_some, Result, Ok, Err}
+use Rattle.std.specs.Prelude.{◌≡◌, ◌≤◌, ℕ, ◌+◌, List, [], ◌++◌, length, Some, is_some, Result, Ok, Err, false}
 use Rattle.std.specs.List.{AllByRecursion}
 use Rattle.dm_types.specs.declared.item.Item.{Item}
 use Rattle.dm_types.specs.declared.kinds.DiskKind.{DiskKind}
@@ -70,7 +70,7 @@ pub record TurnGoes {D O W : Type 0} (tells : Type 0) (clock : D → Clock) (say
 -- a turn stopped the attempt
 pub record TurnStops {D O W : Type 0} (tells : Type 0) (clock : D → Clock) (says : O → Says) (far : D → ℕ) (counts : D → DiskKind → ℕ) (wires : Type 0) (told : W → Told) (scene : Scene D O) (going : Going) (desk : View D O) (older : Trace) (asking : Asking) (cover : List Slice) (shares : List Share) (lane : Lane W) (stop : Stop) : Type 0 where
   pub saves : List (List Slice)
-  pub holds : StopHolds tells clock says far counts scene going.pass desk (opened (with_saves older saves) (live_round asking cover shares)) stop
+  pub holds : StopHolds false tells clock says far counts scene going.pass desk (opened (with_saves older saves) (live_round asking cover shares)) stop
   pub left : IsLeft wires told shares lane
   pub stops : wires → LaneStops told shares lane stop
 
@@ -113,7 +113,7 @@ pub record ReadStops {D O W : Type 0} (tells : Type 0) (clock : D → Clock) (sa
   pub saves : List (List Slice)
   pub after : List Share
   pub keeps : Keeps shares after
-  pub holds : StopHolds tells clock says far counts scene going.pass desk (opened (with_saves older saves) (live_round asking cover after)) stop
+  pub holds : StopHolds false tells clock says far counts scene going.pass desk (opened (with_saves older saves) (live_round asking cover after)) stop
   pub left : AllByRecursion (IsLeft wires told after) lanes
   pub round : InRound net wires made_for told asking (closed_before scene older) closed after lanes
   pub stops : wires → StopSays told after lanes stop
@@ -137,7 +137,7 @@ pub record RoundStops {D O : Type 0} (tells : Type 0) (clock : D → Clock) (say
   pub saves : List (List Slice)
   pub after : List Share
   pub keeps : Keeps shares after
-  pub holds : StopHolds tells clock says far counts scene going.pass desk (opened (with_saves older saves) (live_round asking cover after)) stop
+  pub holds : StopHolds false tells clock says far counts scene going.pass desk (opened (with_saves older saves) (live_round asking cover after)) stop
   pub round : IsCutRound net asking (closed_before scene older) closed after
   pub shown : net → IfBroke stop (SomeBroke round.wires after)
 

@@ -44,13 +44,13 @@ pub record RoundOpens {D O W : Type 0} (tells : Type 0) (clock : D → Clock) (s
 
 -- no round was planned, and no connection was made: where that is a cause, the rounds are used up
 pub record NoneOpens {D O : Type 0} (tells : Type 0) (clock : D → Clock) (says : O → Says) (far : D → ℕ) (counts : D → DiskKind → ℕ) (net : Type 0) (scene : Scene D O) (pass : Pass) (present : View D O) (closed : List Closed) (trace : Trace) (stop : Stop) : Type 0 where
-  pub holds : StopHolds tells clock says far counts scene pass present trace stop
+  pub holds : StopHolds false tells clock says far counts scene pass present trace stop
   pub still : net → closed ≡ closed_before scene trace
   pub why : IfBroke stop (λ cause. (cause ≡ causes.RangeRefused 206) × (length trace.rounds ≡ last_round))
 
 -- a round was planned, and for one of its parts no lane came
 pub record LostOpens {D O : Type 0} (tells : Type 0) (clock : D → Clock) (says : O → Says) (far : D → ℕ) (counts : D → DiskKind → ℕ) (net : Type 0) (scene : Scene D O) (pass : Pass) (present : View D O) (closed : List Closed) (before after : NetFault → ℕ) (trace : Trace) (asking : Asking) (source : Source) (stop : Stop) : Type 0 where
-  pub holds : StopHolds tells clock says far counts scene pass present (opened trace (next_round scene trace asking)) stop
+  pub holds : StopHolds false tells clock says far counts scene pass present (opened trace (next_round scene trace asking)) stop
   pub round : LosesRound net asking source pass (closed_before scene trace) closed before after (next_shares scene trace) stop
 
 abbrev pub OpenLeaves : {D O W : Type 0} → Type 0 → (D → Clock) → (O → Says) → (D → ℕ) → (D → DiskKind → ℕ) → Type 0 → Type 0 → (W → Purpose) → (W → Told) → (W → O) → Scene D O → Pass → View D O → List Closed → (NetFault → ℕ) → (NetFault → ℕ) → Trace → Asking → Source → List (Lane W)

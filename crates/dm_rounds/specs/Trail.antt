@@ -1,5 +1,5 @@
 -- All rounds of an attempt: how they ask, which connections they had, and how one more attempt of them stops.
-use Rattle.std.specs.Prelude.{◌≡◌, ◌⊎◌, ◌<◌, ◌≤◌, ℕ, List, [], ◌∷◌, ◌++◌, length, slice_get, Some, None, true, false, Result, Ok, Err, IfSome, IsTrue}
+use Rattle.std.specs.Prelude.{◌≡◌, ◌≢◌, ◌⊎◌, ◌<◌, ◌≤◌, ℕ, Bool, List, [], ◌∷◌, ◌++◌, length, slice_get, Some, None, true, false, Result, Ok, Err, IfSome, IsTrue}
 use Rattle.std.specs.List.{AllByRecursion, Contains}
 use Rattle.dm_types.specs.Faults.{Rose}
 use Rattle.dm_types.specs.declared.item.Key.TheVariants.{Strong}
@@ -114,18 +114,21 @@ abbrev pub IsShown : {D O : Type 0} → Type 0 → (NetFault → ℕ) → (NetFa
 IsShown net before after scene trace cause =
     AreUsedUp scene trace cause ⊎ (IsTrue (is_net_cause cause) × IfSome (net_kind_of cause) (λ kind. Rose (before kind) (after kind)) × (net → NetShowsIt before after trace cause))
 
--- The attempt brought all that the trace has, and is over by that. These are all its connections.
+-- The attempt brought all that the trace has, of one round at least, and is over by that. These are all its connections.
 pub record HasEnded {D O : Type 0} (tells : Type 0) (clock : D → Clock) (says : O → Says) (far : D → ℕ) (counts : D → DiskKind → ℕ) (net : Type 0) (scene : Scene D O) (pass : Pass) (present : View D O) (closed : List Closed) (trace : Trace) : Type 0 where
+  pub some : trace.rounds ≢ []
   pub closed_is : net → closed ≡ closed_before scene trace
   pub digest : List ℕ
   pub done : DeskDone tells clock says far counts scene pass trace digest
   pub saves : List (List Slice)
   pub over : DeskOver tells clock says far counts scene present (with_saves trace saves) (Done (total_by scene trace) digest)
 
--- The attempt stopped, and what the desk has is what ends it. All its wires are closed, and the cause is shown.
+-- The attempt stopped, perhaps while it finished what came of one round at least, and what the desk has is what ends it. All its wires are closed, and the cause is shown.
 pub record HasStopped {D O : Type 0} (tells : Type 0) (clock : D → Clock) (says : O → Says) (far : D → ℕ) (counts : D → DiskKind → ℕ) (net : Type 0) (scene : Scene D O) (pass : Pass) (present : View D O) (closed : List Closed) (before after : NetFault → ℕ) (trace : Trace) (stop : Stop) : Type 0 where
   pub closed_is : net → closed ≡ closed_before scene trace
-  pub holds : StopHolds tells clock says far counts scene pass present trace stop
+  pub came : Bool
+  pub some : IsTrue came → trace.rounds ≢ []
+  pub holds : StopHolds came tells clock says far counts scene pass present trace stop
   pub shown : IfBroke stop (IsShown net before after scene trace)
 
 -- One of the rounds' connections is that of the first reply: it was made for the rounds, was sent the whole request without a range, and its stream begins with that head.
@@ -148,13 +151,14 @@ pub record RunEnds {D O : Type 0} (tells : Type 0) (clock : D → Clock) (says :
   pub served : IsServedIn net first trace.rounds
   pub ended : HasEnded tells clock says far counts net scene pass present closed trace
 
--- one of them stopped it
+-- One of them stopped it. The desk was asked to finish only where all of them were read whole.
 pub record RunStops {D O : Type 0} (tells : Type 0) (clock : D → Clock) (says : O → Says) (far : D → ℕ) (counts : D → DiskKind → ℕ) (net : Type 0) (scene : Scene D O) (pass : Pass) (present : View D O) (closed : List Closed) (before after : NetFault → ℕ) (older : Trace) (first : Asking) (stop : Stop) : Type 0 where
   pub trace : Trace
   pub from : GoesFrom older trace
   pub rounds : AreCut net first trace.rounds
   pub served : IsServedIn net first trace.rounds
   pub stopped : HasStopped tells clock says far counts net scene pass present closed before after trace stop
+  pub all : IsTrue stopped.came → AreRead net first trace.rounds
 
 abbrev pub RunLeaves : {D O : Type 0} → Type 0 → (D → Clock) → (O → Says) → (D → ℕ) → (D → DiskKind → ℕ) → Type 0 → Scene D O → Pass → View D O → List Closed → (NetFault → ℕ) → (NetFault → ℕ) → Trace → Asking → Result (Unit {0}) Stop → Type 0
 RunLeaves tells clock says far counts net scene pass present closed before after older first (Ok done) = RunEnds tells clock says far counts net scene pass present closed older first
