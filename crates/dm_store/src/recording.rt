@@ -19,7 +19,7 @@ use dm_disk_model::Disk;
 use dm_edge::Origin;
 use dm_item::Items;
 use dm_record::write_broke;
-use dm_types::{DiskKind, Entry, Item, ItemId, Reason};
+use dm_types::{DiskKind, Entry, Item, ItemId, Reason, let_go};
 
 /// Records an entry that adds no item and opens no list: first in the journal, and then in the list and
 /// the lives. It takes no memory, since what the list wants of it was made ready before, and the life of
@@ -60,6 +60,8 @@ pub fn record<D: Disk, O: Origin>(
             Ok(())
         }
         Err(fault) => {
+            let_go(item);
+            let_go(life);
             store.broken = true;
             put_failed(&mut store.failed, entry);
             Err(fault.0)
@@ -82,21 +84,32 @@ fn follow(lives: &mut Vec<Life>, entry: &Entry, life: Option<Life>)
 {
     match entry {
         Entry::Began { .. } => add_life(lives, life),
-        Entry::Progress { id, .. } => save_life(lives, *id),
-        Entry::Broke { id, .. } => drop_life(lives, *id),
-        Entry::Paused { id } => drop_life(lives, *id),
-        Entry::Cancelled { id } => drop_life(lives, *id),
-        Entry::Finishing { id, .. } => drop_life(lives, *id),
-        Entry::Removed { id } => drop_life(lives, *id),
-        Entry::Archived { id } => drop_life(lives, *id),
-        Entry::Described { .. } => {}
-        Entry::Restarted { .. } => {}
-        Entry::Done { .. } => {}
-        Entry::Asked { .. } => {}
+        Entry::Progress { id, .. } => {
+            let_go(life);
+            save_life(lives, *id);
+        }
+        Entry::Broke { id, .. } => end_life(lives, *id, life),
+        Entry::Paused { id } => end_life(lives, *id, life),
+        Entry::Cancelled { id } => end_life(lives, *id, life),
+        Entry::Finishing { id, .. } => end_life(lives, *id, life),
+        Entry::Removed { id } => end_life(lives, *id, life),
+        Entry::Archived { id } => end_life(lives, *id, life),
+        Entry::Described { .. } => let_go(life),
+        Entry::Restarted { .. } => let_go(life),
+        Entry::Done { .. } => let_go(life),
+        Entry::Asked { .. } => let_go(life),
         Entry::Added { .. } => unreachable!(),
         Entry::Reopened { .. } => unreachable!(),
         Entry::Restored { .. } => unreachable!(),
     }
+}
+
+/// Ends the attempt of an item, and begins none.
+fn end_life(lives: &mut Vec<Life>, id: ItemId, life: Option<Life>)
+    ensures { lives.new.items ≡ without_life id.0 lives.old.items }
+{
+    let_go(life);
+    drop_life(lives, id);
 }
 
 pub fn add_life(lives: &mut Vec<Life>, life: Option<Life>)
