@@ -14,12 +14,13 @@ use Rattle.dm_types.specs.declared.kinds.By.TheVariants.{User, Itself}
 use Rattle.dm_types.specs.declared.kinds.Mode.{Mode}
 use Rattle.dm_types.specs.declared.kinds.Mode.TheVariants as modes
 use Rattle.dm_types.specs.declared.slices.Slice.{Slice}
-use Rattle.dm_policy.specs.Mode.{asked_mode, asks_user, because_by, by_user, can_continue, from_start, is_continue, is_last_attempt, is_restart, mode_by, placed_mode}
+use Rattle.dm_policy.specs.Mode.{asked_mode, asks_user, because_by, by_user, is_continue, is_last_attempt, is_restart, mode_by, placed_mode}
 use Rattle.dm_slice.specs.Cover.{IsCoverWithin}
 use Rattle.dm_slice.specs.Words.{IsNormal, IsWithin, covered, cover_end}
 use Rattle.dm_item.specs.History.{get}
 use Rattle.dm_item.specs.Listing.{Admits, Listing, Row, applied, changed_at, item_in}
 use Rattle.dm_item.specs.Restored.{IsCovered, IsSound}
+use Rattle.dm_item.proofs.Continuing.{can_go_on}
 use Rattle.dm_item.specs.Row.{IsBegun, begins_by, begins_in, changed, facts_of, is_interrupted, is_waiting, mode_in, mode_of_item, restarted_item}
 use Rattle.dm_item.proofs.Restarts.{restarted_begins}
 use Rattle.dm_kept.proofs.Lists.{changed_here, id_in}
@@ -111,38 +112,6 @@ pub continues_item : (by : By) (item : Item) → IsTrue (may_begin by item) → 
 continues_item by item may anew begun =
     continues by (mode_of_item item) (both-right (begins_in by item.phase) (begins_by by (mode_of_item item)) may) (goes-on item.begun (is_restart (mode_of_item item)) anew begun)
 
-user-continues : (mode : Mode) → IsTrue (is_continue (by_user mode)) → IsTrue (is_continue mode)
-user-continues modes.Invalid is = is
-user-continues modes.ImmediateContinue is = refl
-user-continues modes.ImmediateRestart is = is
-user-continues modes.UserContinue is = refl
-user-continues modes.UserRestart is = is
-
-never-from-start : (mode : Mode) → is_continue (from_start mode) ≡ false
-never-from-start modes.Invalid = refl
-never-from-start modes.ImmediateContinue = refl
-never-from-start modes.ImmediateRestart = refl
-never-from-start modes.UserContinue = refl
-never-from-start modes.UserRestart = refl
-
-continue-placed : (last asks : Bool) (mode : Mode) → IsTrue (is_continue (cond last modes.Invalid (cond asks (by_user mode) mode))) → IsTrue (is_continue mode)
-continue-placed true asks mode is = absurd (false≢true is)
-continue-placed false true mode is = user-continues mode is
-continue-placed false false mode is = is
-
-continue-can : (can : Bool) (mode : Mode) → IsTrue (is_continue (cond can mode (from_start mode))) → IsTrue can
-continue-can true mode is = refl
-continue-can false mode is = absurd (false≢true (sym (never-from-start mode) ∙ is))
-
-continue-in : (phase : Phase) (mode : Mode) → IsTrue (is_continue (mode_in phase mode)) → IsTrue (is_continue mode)
-continue-in phases.Waiting mode is = is
-continue-in phases.Running mode is = is
-continue-in phases.Paused mode is = is
-continue-in (phases.Interrupted reason) mode is = is
-continue-in phases.Finishing mode is = absurd (false≢true is)
-continue-in phases.Complete mode is = absurd (false≢true is)
-continue-in phases.Cancelled mode is = absurd (false≢true is)
-
 last-is : (a b c : Bool) → IsTrue (a && b && c) → IsTrue c
 last-is a b c is = both-right (a && b) c is
 
@@ -164,8 +133,7 @@ kept_some by item sound may anew told =
     some-end item.slices
     (test-less 0 (covered item.slices)
     (last-is facts.strong facts.total facts.covered
-    (continue-can (can_continue facts) (asked_mode item.reason)
-    (continue-placed (is_last_attempt facts) (asks_user facts) (placed_mode item.reason facts) (continue-in item.phase (mode_by item.reason facts) goes)))))
+    (can_go_on item goes)))
 
 -- The list takes the entries.
 

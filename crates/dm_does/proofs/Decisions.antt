@@ -1,9 +1,10 @@
 -- What the desk's calls answer is what the job does.
 use Rattle.std.proofs.Common.{◌≡◌, ◌⊎◌, inl, inr, ℕ, ◌≤◌, Bool, true, false, if◌then◌else◌, List, [], ◌∷◌, length, Option, Some, None, Result, Ok, Err, refl, sym, ◌∙◌, ap, subst, arith}
-use Rattle.std.specs.Prelude.{IsSomeAnd, nat_lt, not}
+use Rattle.std.specs.Prelude.{IfSome, IsSomeAnd, nat_lt, not}
 use Rattle.std.specs.Str.{bytes_eq}
 use Rattle.std.proofs.lemmas.Bool.{and_from, and_left, and_right, and_parts, false_from_ne_true, false≢true, le-ltb, lt-ltb}
 use Rattle.std.proofs.lemmas.Slice.Eq.{bytes_eq-Decides}
+use Rattle.dm_types.specs.Faults.{Rose}
 use Rattle.dm_types.specs.declared.entry.Entry.{Entry}
 use Rattle.dm_types.specs.declared.entry.Entry.TheVariants as entries
 use Rattle.dm_types.specs.declared.item.Item.{Item}
@@ -20,6 +21,7 @@ use Rattle.dm_store.specs.Becomes.{Fell, Recorded}
 use Rattle.dm_store.specs.View.{View}
 use Rattle.dm_answers.specs.Add.{AddAnswers, IsFull, IsKnown, IsNew, IsOther, added_by}
 use Rattle.dm_answers.specs.Change.{ChangeAnswers, IsWrong, in_no_phase, is_under_way, stands_in}
+use Rattle.dm_answers.specs.Faults.{desk_kind}
 use Rattle.dm_answers.specs.declared.fault.DeskFault.{DeskFault}
 use Rattle.dm_answers.specs.declared.fault.DeskFault.TheVariants as faults
 use Rattle.dm_answers.specs.declared.order.Order.{Order}
@@ -29,7 +31,7 @@ use Rattle.dm_does.specs.declared.course.Course.{Course}
 use Rattle.dm_does.specs.declared.course.Course.TheVariants.{Ends, Brings}
 use Rattle.dm_does.specs.declared.course.Show.TheVariants.{Nothing, Line}
 use Rattle.dm_does.specs.declared.job.Job.TheVariants as jobs
-use Rattle.dm_does.specs.Deciding.{Decides, course_of, course_of_order, did, fell, wanted}
+use Rattle.dm_does.specs.Deciding.{Decides, ShowsFault, course_of, course_of_fault, course_of_order, did, fell, wanted}
 use Rattle.dm_does.specs.Doing.{Doing, Given, by_word, changes, does, ends, has_room, may_ask, named_by, on_found, records, refuses}
 use Rattle.dm_does.proofs.Naming.{with_free, with_known}
 
@@ -225,3 +227,20 @@ resume_decides old new id slices at result whole answers =
       taken = λ item row. and_from (allows (entries.Asked item.id) item.phase) (not (is_invalid (mode_of_item item))) row.0 row.1;
       takes = λ item may. and_parts (allows (entries.Asked item.id) item.phase) (not (is_invalid (mode_of_item item))) may;
     }) result whole answers
+
+-- Where the course is that the disk failed, the fault said so.
+
+pub fault_shows : (before after : DiskKind → ℕ) (fault : DeskFault) → IfSome (desk_kind fault) (λ kind. Rose (before kind) (after kind)) → ShowsFault before after (course_of_fault fault)
+fault_shows before after (faults.NoItem id) cause = tt
+fault_shows before after (faults.WrongState phase) cause = tt
+fault_shows before after (faults.Stale attempt round) cause = tt
+fault_shows before after (faults.NotNext place) cause = tt
+fault_shows before after (faults.PastEnd end) cause = tt
+fault_shows before after (faults.CheckpointDue bytes) cause = tt
+fault_shows before after (faults.ItemsFull count) cause = tt
+fault_shows before after (faults.WordTaken id) cause = tt
+fault_shows before after (faults.File kind) cause = cause
+fault_shows before after (faults.Journal kind) cause = cause
+fault_shows before after faults.Broken cause = tt
+fault_shows before after faults.NoMemory cause = tt
+fault_shows before after (faults.Damaged place) cause = tt

@@ -19,3 +19,4 @@ pub mod Touching
 pub mod Sweeping
 pub mod Refusing
 pub mod Completing
+pub mod Plain

@@ -1,5 +1,6 @@
 -- What a job's own part makes of a desk, and the course that it takes by the answer of the desk's call.
-use Rattle.std.specs.Prelude.{◌≡◌, ◌⊎◌, [], Result, Ok, Err}
+use Rattle.std.specs.Prelude.{◌≡◌, ◌⊎◌, ℕ, [], Result, Ok, Err}
+use Rattle.dm_types.specs.Faults.{Rose}
 use Rattle.dm_types.specs.declared.item.ItemId.{ItemId}
 use Rattle.dm_types.specs.declared.kinds.DiskKind.{DiskKind}
 use Rattle.dm_report.specs.declared.verdict.Verdict.TheVariants as verdicts
@@ -10,7 +11,7 @@ use Rattle.dm_answers.specs.declared.fault.DeskFault.TheVariants as faults
 use Rattle.dm_answers.specs.declared.order.Taken.{Taken}
 use Rattle.dm_answers.specs.declared.order.Taken.TheVariants.{New, Same}
 use Rattle.dm_does.specs.declared.course.Course.{Course}
-use Rattle.dm_does.specs.declared.course.Course.TheVariants.{Ends}
+use Rattle.dm_does.specs.declared.course.Course.TheVariants.{Brings, Ends}
 use Rattle.dm_does.specs.declared.course.Show.TheVariants.{Nothing}
 use Rattle.dm_does.specs.Doing.{Doing}
 
@@ -50,3 +51,9 @@ abbrev pub course_of_order : (ItemId → Course) → (ItemId → Course) → Res
 course_of_order new same (Ok (New id)) = new id
 course_of_order new same (Ok (Same id)) = same id
 course_of_order new same (Err fault) = course_of_fault fault
+
+-- where the course is that a call on the disk failed, the count of its kind rose
+abbrev pub ShowsFault : (DiskKind → ℕ) → (DiskKind → ℕ) → Course → Type 0
+ShowsFault before after (Ends (verdicts.DiskFailed kind) show) = Rose (before kind) (after kind)
+ShowsFault before after (Ends verdict show) = Unit {0}
+ShowsFault before after (Brings id slices) = Unit {0}

@@ -16,12 +16,13 @@ use Rattle.dm_types.specs.declared.kinds.By.{By}
 use Rattle.dm_types.specs.declared.kinds.By.TheVariants.{Itself, User}
 use Rattle.dm_types.specs.declared.kinds.Mode.{Mode}
 use Rattle.dm_types.specs.declared.kinds.Mode.TheVariants as modes
-use Rattle.dm_policy.specs.Mode.{asked_mode, asks_user, by_user, can_continue, from_start, is_continue, is_last_attempt, is_restart, mode_by, placed_mode}
+use Rattle.dm_policy.specs.Mode.{is_continue, is_restart}
 use Rattle.dm_item.specs.Fields.{is_running, no_bytes}
 use Rattle.dm_item.specs.Lawful.{History}
 use Rattle.dm_item.specs.Listing.{Listing, applied, item_in}
 use Rattle.dm_item.specs.Restored.{IsSound}
-use Rattle.dm_item.specs.Row.{begins_by, begins_in, facts_of, is_strong, mode_in, mode_of_item}
+use Rattle.dm_item.proofs.Continuing.{can_go_on}
+use Rattle.dm_item.specs.Row.{begins_by, begins_in, facts_of, is_strong, mode_of_item}
 use Rattle.dm_item.proofs.Shorts.{sound_in}
 use Rattle.dm_store.specs.Becomes.{lives_of, run_of}
 use Rattle.dm_store.specs.Keeps.{IsDesk}
@@ -29,7 +30,6 @@ use Rattle.dm_store.specs.Lives.{LifeOf, begun_life, life_in, with_life}
 use Rattle.dm_store.specs.View.{View}
 use Rattle.dm_store.specs.declared.life.Life.{Life}
 use Rattle.dm_store.proofs.Begun.{pushed_own}
-use Rattle.dm_disk_model.specs.Disk.{History as Clock}
 use Rattle.dm_answers.specs.Begin.{because_of, beginning, begins_anew, epoch_behind, key_behind, may_begin}
 use Rattle.dm_attempt.specs.Scene.{Scene, changed_all, told_by}
 use Rattle.dm_attempt.specs.Trace.{Tale}
@@ -150,44 +150,6 @@ module _ (item : Item) (by : By) (at : ℕ) where
       (subst (λ (found : Option Item). LifeOf found (life_in item.id.0 desk.lives)) there (is.lives whole item.id.0))
 
 -- What is kept, where an attempt goes on from what was saved.
-
-user_continues : (mode : Mode) → IsTrue (is_continue (by_user mode)) → IsTrue (is_continue mode)
-user_continues modes.Invalid is = is
-user_continues modes.ImmediateContinue is = refl
-user_continues modes.ImmediateRestart is = is
-user_continues modes.UserContinue is = refl
-user_continues modes.UserRestart is = is
-
-never_from_start : (mode : Mode) → is_continue (from_start mode) ≡ false
-never_from_start modes.Invalid = refl
-never_from_start modes.ImmediateContinue = refl
-never_from_start modes.ImmediateRestart = refl
-never_from_start modes.UserContinue = refl
-never_from_start modes.UserRestart = refl
-
-continue_placed : (last asks : Bool) (mode : Mode) → IsTrue (is_continue (cond last modes.Invalid (cond asks (by_user mode) mode))) → IsTrue (is_continue mode)
-continue_placed true asks mode is = absurd (false≢true is)
-continue_placed false true mode is = user_continues mode is
-continue_placed false false mode is = is
-
-continue_can : (can : Bool) (mode : Mode) → IsTrue (is_continue (cond can mode (from_start mode))) → IsTrue can
-continue_can true mode is = refl
-continue_can false mode is = absurd (false≢true (sym (never_from_start mode) ∙ is))
-
-continue_in : (phase : Phase) (mode : Mode) → IsTrue (is_continue (mode_in phase mode)) → IsTrue (is_continue mode)
-continue_in phases.Waiting mode is = is
-continue_in phases.Running mode is = is
-continue_in phases.Paused mode is = is
-continue_in (phases.Interrupted reason) mode is = is
-continue_in phases.Finishing mode is = absurd (false≢true is)
-continue_in phases.Complete mode is = absurd (false≢true is)
-continue_in phases.Cancelled mode is = absurd (false≢true is)
-
-can_go_on : (item : Item) → IsTrue (is_continue (mode_of_item item)) → IsTrue (can_continue (facts_of item))
-can_go_on item is =
-    let facts = facts_of item in
-    continue_can (can_continue facts) (asked_mode item.reason)
-    (continue_placed (is_last_attempt facts) (asks_user facts) (placed_mode item.reason facts) (continue_in item.phase (mode_by item.reason facts) is))
 
 goes_on : (by : By) (mode : Mode) → IsTrue (begins_by by mode) → is_restart mode ≡ false → IsTrue (is_continue mode)
 goes_on User modes.Invalid begins not = absurd (false≢true begins)

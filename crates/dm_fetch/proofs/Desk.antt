@@ -11,10 +11,7 @@ use Rattle.dm_types.specs.declared.entry.Entry.TheVariants as entries
 use Rattle.dm_types.specs.declared.item.Item.{Item}
 use Rattle.dm_types.specs.declared.item.ItemId.{ItemId}
 use Rattle.dm_types.specs.declared.item.Key.{Key}
-use Rattle.dm_types.specs.declared.item.Phase.{Phase}
-use Rattle.dm_types.specs.declared.item.Phase.TheVariants as phases
 use Rattle.dm_types.specs.declared.kinds.By.{By}
-use Rattle.dm_types.specs.declared.kinds.By.TheVariants.{Itself, User}
 use Rattle.dm_types.specs.declared.kinds.DiskKind.{DiskKind}
 use Rattle.dm_types.specs.declared.slices.Slice.{Slice}
 use Rattle.dm_disk_model.specs.Beside.{IsFirmBut, LeftAsBefore}
@@ -37,6 +34,7 @@ use Rattle.dm_part.specs.Keeping.{Claim, Going, Stage}
 use Rattle.dm_part.proofs.Standing.{held_stands, part_reads}
 use Rattle.dm_kept.specs.Files.{FileKept, Says, claim_of, live_of, stage_of}
 use Rattle.dm_kept.proofs.Entered.{items_are}
+use Rattle.dm_kept.proofs.Standing.{begins_going}
 use Rattle.dm_store.specs.declared.life.Life.{Life}
 use Rattle.dm_store.specs.declared.pass.Pass.{Pass}
 use Rattle.dm_store.specs.Becomes.{run_of}
@@ -66,22 +64,6 @@ bytes_there : (folder : Folder) (name : List ℕ) → IsSome (names_of folder na
 bytes_there folder name some = bytes_by folder name (names_of folder name) refl some
 
 -- Of a good disk each live place of a part has a byte.
-
-begins_going : (by : By) (phase : Phase) → IsTrue (begins_in by phase) → stage_of phase ≡ Some Going
-begins_going User phases.Waiting may = refl
-begins_going User phases.Running may = refl
-begins_going User phases.Paused may = refl
-begins_going User (phases.Interrupted reason) may = refl
-begins_going User phases.Finishing may = absurd (false≢true may)
-begins_going User phases.Complete may = absurd (false≢true may)
-begins_going User phases.Cancelled may = absurd (false≢true may)
-begins_going Itself phases.Waiting may = refl
-begins_going Itself phases.Running may = refl
-begins_going Itself phases.Paused may = refl
-begins_going Itself (phases.Interrupted reason) may = refl
-begins_going Itself phases.Finishing may = absurd (false≢true may)
-begins_going Itself phases.Complete may = absurd (false≢true may)
-begins_going Itself phases.Cancelled may = absurd (false≢true may)
 
 module _ {D O : Type 0} (clock : D → Clock) (says : Says) (desk : View D O) (history : History) (whole : desk.broken ≡ false) (holds : HoldsOf true says clock desk history) (id : ItemId) (item : Item) (there : item_in id.0 desk.items.items ≡ Some item) (told : IsSome item.key)
     (going : stage_of item.phase ≡ Some Going) where

@@ -28,7 +28,7 @@ use Rattle.dm_item.specs.Fields.{is_running, stopped}
 use Rattle.dm_item.specs.Lawful.{History, IsOf, items_of}
 use Rattle.dm_item.specs.Listing.{Admits, Listing, Takes, applied, item_in}
 use Rattle.dm_item.specs.Row.{stopped_item}
-use Rattle.dm_item.proofs.Histories.{keeps_step}
+use Rattle.dm_item.proofs.Histories.{keeps_step, limit_applied}
 use Rattle.dm_journal.specs.AtRest.{AtRest, WithOrWithout, journal_name, journal_place}
 use Rattle.dm_kept.specs.Files.{EachItem, EndsLive, Facts, IfGood, PartsStand, Says, brings, no_covers, says_all}
 use Rattle.dm_kept.specs.Kept.{Kept, Rests, Sits}
@@ -39,7 +39,7 @@ use Rattle.dm_kept.proofs.Entered.{entered_is, facts_reopened, items_are}
 use Rattle.dm_kept.proofs.Flags.{if_is, if_map}
 use Rattle.dm_kept.proofs.Frame.{names_stay}
 use Rattle.dm_kept.proofs.Histories.{entries_push, follows_more, taken_more, taken_push}
-use Rattle.dm_kept.proofs.Listings.{follows_of, limit_applied}
+use Rattle.dm_kept.proofs.Listings.{follows_of}
 use Rattle.dm_kept.proofs.Lists.{each_stopped}
 use Rattle.dm_kept.proofs.Resting as resting
 use Rattle.dm_store.specs.declared.life.Life.{Life}

@@ -12,7 +12,7 @@ use Rattle.dm_item.specs.Listing.{Listing}
 use Rattle.dm_item.specs.Declines.{Declines}
 use Rattle.dm_item.specs.declared.fault.ApplyFault.{ApplyFault}
 use Rattle.dm_item.specs.declared.fault.ApplyFault.TheVariants as applies
-use Rattle.dm_item.proofs.Histories.{keeps_step}
+use Rattle.dm_item.proofs.Histories.{keeps_step, limit_applied}
 use Rattle.dm_journal.specs.Text.{cell, cells, front, header}
 use Rattle.dm_journal.proofs.Texts.{cells_push, length-cell}
 use Rattle.dm_kept.specs.Damage.{IsRefused}
@@ -20,7 +20,7 @@ use Rattle.dm_kept.specs.Room.{IsTaken, MayFollow}
 use Rattle.dm_kept.specs.Spelled.{AllEntries, bodies_of}
 use Rattle.dm_kept.proofs.Histories.{bodies_push, entries_push, same_entry, taken_push}
 use Rattle.dm_item.proofs.Declined.{declined}
-use Rattle.dm_kept.proofs.Listings.{follows_of, limit_applied, meets_of, room_of}
+use Rattle.dm_kept.proofs.Listings.{follows_of, meets_of, room_of}
 use Rattle.dm_find.specs.Bodies.{IsEntryTaken, IsListOf, IsRefusedAt, ReadsBody, TakesBody, TakesEntry, WholeEntry, apply_fault, read_fault}
 use Rattle.dm_find.specs.declared.bodies.BodyFault.{BodyFault}
 use Rattle.dm_find.specs.declared.bodies.BodyFault.TheVariants as faults

@@ -7,9 +7,7 @@ use Rattle.dm_types.specs.declared.item.Item.{Item}
 use Rattle.dm_types.specs.declared.item.ItemId.{ItemId}
 use Rattle.dm_types.specs.declared.item.Key.{Key}
 use Rattle.dm_types.specs.declared.item.Phase.{Phase}
-use Rattle.dm_types.specs.declared.item.Phase.TheVariants as phases
 use Rattle.dm_types.specs.declared.kinds.By.{By}
-use Rattle.dm_types.specs.declared.kinds.By.TheVariants.{Itself, User}
 use Rattle.dm_types.specs.declared.kinds.DiskKind.{DiskKind}
 use Rattle.dm_types.specs.declared.slices.Slice.{Slice}
 use Rattle.dm_disk_model.specs.Disk.{History as Clock, now}
@@ -23,9 +21,10 @@ use Rattle.dm_item.specs.Row.{begins_by, begins_in, mode_of_item}
 use Rattle.dm_item.proofs.Shorts.{sound_in}
 use Rattle.dm_part.specs.Keeping.{Claim, Going, Stage}
 use Rattle.dm_part.proofs.Standing.{held_stands, part_reads}
-use Rattle.dm_kept.specs.Files.{FileKept, Says, claim_of, live_of, stage_of}
+use Rattle.dm_kept.specs.Files.{FileKept, Says, claim_of, live_of}
 use Rattle.dm_kept.proofs.Entered.{items_are}
 use Rattle.dm_kept.proofs.Lists.{id_in}
+use Rattle.dm_kept.proofs.Standing.{begins_going}
 use Rattle.dm_store.specs.declared.life.Life.{Life}
 use Rattle.dm_store.specs.declared.pass.Pass.{Pass}
 use Rattle.dm_store.specs.Keeps.{HoldsOf}
@@ -79,22 +78,6 @@ module _ {D O : Type 0} (tells : Type 0) (clock : D → Clock) (says : Says) (co
       omega (arith, long, low, same, has)
 
 -- Where it begins.
-
-begins_going : (by : By) (phase : Phase) → IsTrue (begins_in by phase) → stage_of phase ≡ Some Going
-begins_going User phases.Waiting may = refl
-begins_going User phases.Running may = refl
-begins_going User phases.Paused may = refl
-begins_going User (phases.Interrupted reason) may = refl
-begins_going User phases.Finishing may = absurd (false≢true may)
-begins_going User phases.Complete may = absurd (false≢true may)
-begins_going User phases.Cancelled may = absurd (false≢true may)
-begins_going Itself phases.Waiting may = refl
-begins_going Itself phases.Running may = refl
-begins_going Itself phases.Paused may = refl
-begins_going Itself (phases.Interrupted reason) may = refl
-begins_going Itself phases.Finishing may = absurd (false≢true may)
-begins_going Itself phases.Complete may = absurd (false≢true may)
-begins_going Itself phases.Cancelled may = absurd (false≢true may)
 
 first_of : (a b : Bool) → IsTrue (a && b) → IsTrue a
 first_of true b both = refl

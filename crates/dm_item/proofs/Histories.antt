@@ -25,7 +25,8 @@ meets_limit (entries.Reopened next at) limit other h meets = meets
 meets_limit (entries.Restored item) limit other h meets = meets
 meets_limit (entries.Asked id) limit other h meets = meets
 
-limit_applied : (e : Entry) (v : Listing) → (applied e v).limit ≡ v.limit
+-- the limit stays
+pub limit_applied : (e : Entry) (v : Listing) → (applied e v).limit ≡ v.limit
 limit_applied (entries.Added id word address wish digest at) v = refl
 limit_applied (entries.Began id attempt by at) v = refl
 limit_applied (entries.Described id key last_address total name modified) v = refl

@@ -14,3 +14,4 @@ pub mod Readied
 pub mod Applied
 pub mod Restarts
 pub mod Gone
+pub mod Continuing

@@ -1,18 +1,23 @@
 -- The parts of the items behind one more entry that ends or begins no attempt there: they stand, and end where they did.
-use Rattle.std.proofs.Common.{◌≡◌, ◌≢◌, ℕ, Bool, true, false, IsTrue, List, Option, Some, None, sym, ◌∙◌, ap, subst}
+use Rattle.std.proofs.Common.{◌≡◌, ◌≢◌, ℕ, false, IsTrue, List, Option, Some, None, refl, sym, ◌∙◌, ap}
 use Rattle.std.specs.Prelude.{IsSome, length}
 use Rattle.std.proofs.lemmas.Bool.{false≢true}
 use Rattle.dm_types.specs.Name.{part_name}
 use Rattle.dm_types.specs.declared.entry.Entry.{Entry}
 use Rattle.dm_types.specs.declared.item.Item.{Item}
+use Rattle.dm_types.specs.declared.item.Phase.{Phase}
+use Rattle.dm_types.specs.declared.item.Phase.TheVariants as phases
+use Rattle.dm_types.specs.declared.kinds.By.{By}
+use Rattle.dm_types.specs.declared.kinds.By.TheVariants.{Itself, User}
 use Rattle.dm_types.specs.declared.slices.Slice.{Slice}
 use Rattle.dm_slice.specs.Words.{cover_end}
 use Rattle.dm_disk_model.specs.Folder.{Folder, contents_of, names_of}
 use Rattle.dm_item.specs.History.{get}
 use Rattle.dm_item.specs.Listing.{changed_at, item_in, without}
 use Rattle.dm_item.specs.Kept.{IsNumbered}
-use Rattle.dm_item.specs.Row.{changed}
-use Rattle.dm_kept.specs.Files.{Covers, EndsLive, PartsStand, brings, live_of}
+use Rattle.dm_item.specs.Row.{begins_in, changed}
+use Rattle.dm_part.specs.Keeping.{Going}
+use Rattle.dm_kept.specs.Files.{Covers, EndsLive, PartsStand, brings, live_of, stage_of}
 use Rattle.dm_kept.proofs.Entered.{SameBut}
 use Rattle.dm_kept.proofs.Lists.{each_changed, each_gone}
 
@@ -47,3 +52,20 @@ stand_gone k low next items folder numbered = each_gone (Stands folder) (Stands 
 pub ends_gone : (covers after : Covers) (k low next : ℕ) (items : List Item) (folder : Folder) → IsNumbered low items next → SameBut k covers after → EndsLive covers items folder → EndsLive after (without k items) folder
 ends_gone covers after k low next items folder numbered others =
     each_gone (Ends covers folder) (Ends after folder) k low next items numbered (λ item apart. ends_moved covers after folder item (others item.id.0 apart))
+
+-- an item that may begin is under way
+pub begins_going : (by : By) (phase : Phase) → IsTrue (begins_in by phase) → stage_of phase ≡ Some Going
+begins_going User phases.Waiting may = refl
+begins_going User phases.Running may = refl
+begins_going User phases.Paused may = refl
+begins_going User (phases.Interrupted reason) may = refl
+begins_going User phases.Finishing may = absurd (false≢true may)
+begins_going User phases.Complete may = absurd (false≢true may)
+begins_going User phases.Cancelled may = absurd (false≢true may)
+begins_going Itself phases.Waiting may = refl
+begins_going Itself phases.Running may = refl
+begins_going Itself phases.Paused may = refl
+begins_going Itself (phases.Interrupted reason) may = refl
+begins_going Itself phases.Finishing may = absurd (false≢true may)
+begins_going Itself phases.Complete may = absurd (false≢true may)
+begins_going Itself phases.Cancelled may = absurd (false≢true may)

@@ -32,8 +32,8 @@ use Rattle.dm_does.specs.declared.course.Course.TheVariants.{Ends, Brings}
 use Rattle.dm_does.specs.declared.course.Show.{Show}
 use Rattle.dm_does.specs.declared.course.Show.TheVariants.{Nothing}
 use Rattle.dm_does.specs.declared.job.Job.{Job}
-use Rattle.dm_does.specs.Answering.{given_by, Bringing, Came, Follows, IsBrought, IsOver, Rests, WasCut, WentOn, all, broke, fell, stopped, unsaid}
-use Rattle.dm_does.specs.Deciding.{Decides, Did}
+use Rattle.dm_does.specs.Answering.{given_by, Bringing, Came, Follows, IsBrought, Rests, WentOn, all, broke, fell, stopped, unsaid}
+use Rattle.dm_does.specs.Deciding.{Decides, Did, ShowsFault}
 use Rattle.dm_does.specs.Deciding as deciding
 use Rattle.dm_does.specs.Doing.{Doing, Given, does}
 use Rattle.dm_does.specs.Laws.{Fits, NoneRuns, Waits, WaitsBy}
@@ -44,7 +44,7 @@ use Rattle.dm_does.proofs.Fitting.{does_fit}
 use Rattle.dm_does.proofs.Waiting.{does_wait}
 use Rattle.dm_list.specs.Completing.{BringsWell, IsFavoured}
 use Rattle.dm_list.specs.Running.{JobWorked, world_of}
-use Rattle.dm_list.specs.Working.{CallGoes, ShowsFault, Worked, SaysFailure}
+use Rattle.dm_list.specs.Working.{CallGoes, Worked, SaysFailure}
 use Rattle.dm_list.proofs.Going.{did_went, went_none}
 use Rattle.dm_list.proofs.Quiet.{none_runs}
 use Rattle.std.specs.Prelude.{IfSome, IsTrue, is_some}
@@ -64,7 +64,7 @@ use Rattle.dm_does.specs.Saying.{said_by}
 use Rattle.dm_does.specs.Sweeping.{Sweeps, sweeps}
 use Rattle.dm_does.specs.World.{Failed, IsLater, NoneClosed, World}
 use Rattle.dm_does.proofs.Sweeping.{rose_wider, sweep_came}
-use Rattle.dm_list.proofs.Plain.{plain_attempts, plain_both, plain_entries, plain_front}
+use Rattle.dm_does.proofs.Plain.{plain_attempts, plain_both, plain_entries, plain_front}
 
 -- an entry leaves the limit of items
 applied_limit : (e : Entry) (v : Listing) → (applied e v).limit ≡ v.limit

@@ -22,7 +22,7 @@ use Rattle.dm_store.specs.Lives.{life_in}
 use Rattle.dm_store.specs.View.{View}
 use Rattle.dm_store.proofs.Keeping.{keeps_same}
 use Rattle.dm_report.specs.declared.verdict.Verdict.TheVariants as verdicts
-use Rattle.dm_answers.specs.Add.{AddAnswers, IsKnown, added_by}
+use Rattle.dm_answers.specs.Add.{AddAnswers, added_by}
 use Rattle.dm_answers.specs.Change.{ChangeAnswers, in_no_phase, is_under_way}
 use Rattle.dm_answers.specs.Faults.{desk_kind}
 use Rattle.dm_answers.specs.Pause.{PauseAnswers}
@@ -37,11 +37,11 @@ use Rattle.dm_does.specs.declared.course.Show.{Show}
 use Rattle.dm_does.specs.declared.course.Show.TheVariants.{Nothing, Line, Lines, Whole, Counts, Records}
 use Rattle.dm_does.specs.declared.job.Job.{Job}
 use Rattle.dm_does.specs.declared.job.Job.TheVariants as jobs
-use Rattle.dm_does.specs.Deciding.{Decides, course_of, course_of_fault, course_of_order, wanted}
+use Rattle.dm_does.specs.Deciding.{Decides, ShowsFault, course_of, course_of_fault, course_of_order, wanted}
 use Rattle.dm_does.specs.Doing.{Doing, asks_for, does, ends, goes_on, on_found}
-use Rattle.dm_does.proofs.Decisions.{add_decides, at_id, cancel_decides, given_of, id_of_found, none_did, one_did, one_fell, remove_decides, resume_decides, word_full, word_known, word_new, word_other}
+use Rattle.dm_does.proofs.Decisions.{add_decides, at_id, cancel_decides, fault_shows, given_of, id_of_found, none_did, one_did, one_fell, remove_decides, resume_decides, word_full, word_known, word_new, word_other}
 use Rattle.dm_does.proofs.Pausing.{pause_decides}
-use Rattle.dm_list.specs.Working.{CallGoes, ShowsFault}
+use Rattle.dm_list.specs.Working.{CallGoes}
 
 -- A desk that is as before.
 
@@ -149,22 +149,7 @@ refused_decided tells clock old new order slices at fault course desk whole answ
 pub for_job : {D O : Type 0} (old new : View D O) (at : ℕ) (job other : Job) (course : Course) → job ≡ other → Decides (does other (given_of old at)) old new course → Decides (does job (given_of old at)) old new course
 for_job old new at job other course is decides = subst (λ (j : Job). Decides (does j (given_of old at)) old new course) (sym is) decides
 
--- Where the course is that the disk failed, the fault said so.
-
-fault_shows : (before after : DiskKind → ℕ) (fault : DeskFault) → IfSome (desk_kind fault) (λ kind. Rose (before kind) (after kind)) → ShowsFault before after (course_of_fault fault)
-fault_shows before after (faults.NoItem id) cause = tt
-fault_shows before after (faults.WrongState phase) cause = tt
-fault_shows before after (faults.Stale attempt round) cause = tt
-fault_shows before after (faults.NotNext place) cause = tt
-fault_shows before after (faults.PastEnd end) cause = tt
-fault_shows before after (faults.CheckpointDue bytes) cause = tt
-fault_shows before after (faults.ItemsFull count) cause = tt
-fault_shows before after (faults.WordTaken id) cause = tt
-fault_shows before after (faults.File kind) cause = cause
-fault_shows before after (faults.Journal kind) cause = cause
-fault_shows before after faults.Broken cause = tt
-fault_shows before after faults.NoMemory cause = tt
-fault_shows before after (faults.Damaged place) cause = tt
+-- Where the course is that the disk failed, the call said so.
 
 pub change_shows : (before after : DiskKind → ℕ) (show : Show) (answer : Result (Unit {0}) DeskFault) (course : Course) → course ≡ course_of (Ends verdicts.Done show) answer → HasCause desk_kind before after answer → ShowsFault before after course
 change_shows before after show (Ok done) course is cause = subst (ShowsFault before after) (sym is) tt

@@ -3,7 +3,6 @@ pub mod Texts
 pub mod Courses
 pub mod Quiet
 pub mod Going
-pub mod Plain
 pub mod Unnamed
 pub mod Coming
 pub mod Left

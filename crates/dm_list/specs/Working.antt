@@ -1,6 +1,6 @@
 -- What a command does on a desk that was opened: its own part, an item that is brought, what it says, and a sweep.
 use Rattle.std.specs.Prelude.{◌≡◌, ℕ, true, false, List, [], None, Result, Ok, Err, IsTrue}
-use Rattle.dm_types.specs.Faults.{HasCause, NoneFell, Rose}
+use Rattle.dm_types.specs.Faults.{HasCause, NoneFell}
 use Rattle.dm_types.specs.Name.{IsPart}
 use Rattle.dm_types.specs.declared.kinds.DiskKind.{DiskKind}
 use Rattle.dm_types.specs.declared.memory.NoMemory.{NoMemory}
@@ -21,9 +21,9 @@ use Rattle.dm_answers.specs.declared.fault.DeskFault.{DeskFault}
 use Rattle.dm_attempt.specs.Goes as calls
 use Rattle.dm_bring.specs.Bringing.{BringsOn}
 use Rattle.dm_does.specs.declared.course.Course.{Course}
-use Rattle.dm_does.specs.declared.course.Course.TheVariants.{Ends, Brings}
+use Rattle.dm_does.specs.declared.course.Course.TheVariants.{Ends}
 use Rattle.dm_does.specs.declared.course.Show.TheVariants.{Nothing}
-use Rattle.dm_does.specs.Deciding.{Decides}
+use Rattle.dm_does.specs.Deciding.{Decides, ShowsFault}
 use Rattle.dm_does.specs.Doing.{does}
 use Rattle.dm_does.specs.Saying.{said_by}
 use Rattle.dm_does.specs.Sweeping.{sweeps}
@@ -33,12 +33,6 @@ use Rattle.dm_does.proofs.Decisions.{given_of}
 -- what every call on a desk keeps: the crash clause, the user's files but parts, the counts, and the count of far writes
 abbrev pub CallGoes : {D O : Type 0} → Type 0 → (D → Clock) → (D → DiskKind → ℕ) → (D → ℕ) → (O → Says) → View D O → View D O → Type 0
 CallGoes tells clock counts far says old new = calls.CallGoes tells clock says far counts IsPart old new
-
--- where the course is that a call on the disk failed, the count of its kind rose
-abbrev pub ShowsFault : (DiskKind → ℕ) → (DiskKind → ℕ) → Course → Type 0
-ShowsFault before after (Ends (verdicts.DiskFailed kind) show) = Rose (before kind) (after kind)
-ShowsFault before after (Ends verdict show) = Unit {0}
-ShowsFault before after (Brings id slices) = Unit {0}
 
 -- no attempt runs on the desk
 abbrev pub HasNoLife : {D O : Type 0} → View D O → Type 0

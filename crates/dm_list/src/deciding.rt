@@ -8,14 +8,14 @@ ghost use Rattle.dm_answers.specs.Add.{IsOrder};
 ghost use Rattle.dm_does.specs.declared.course.Course.TheVariants.{Brings, Ends};
 ghost use Rattle.dm_does.specs.declared.course.Show.TheVariants.{Line};
 ghost use Rattle.dm_does.specs.declared.job.Job.TheVariants as jobs;
-ghost use Rattle.dm_does.specs.Deciding.{Decides, course_of, course_of_fault, course_of_order};
+ghost use Rattle.dm_does.specs.Deciding.{Decides, ShowsFault, course_of, course_of_fault, course_of_order};
 ghost use Rattle.dm_does.specs.Doing.{does, goes_on};
 ghost use Rattle.dm_does.proofs.Decisions.{given_of};
 ghost use Rattle.dm_store.specs.Keeps.{IsDesk};
 ghost use Rattle.dm_store.specs.Lives.{life_in};
 ghost use Rattle.dm_store.specs.Origin.{said_of};
 ghost use Rattle.dm_list.specs.Reading.{FitsJob};
-ghost use Rattle.dm_list.specs.Working.{CallGoes, HasNoLife, ShowsFault};
+ghost use Rattle.dm_list.specs.Working.{CallGoes, HasNoLife};
 
 use dm_answers::{DeskFault, Order, Taken};
 use dm_disk_model::Disk;

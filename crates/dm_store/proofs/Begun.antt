@@ -15,10 +15,8 @@ use Rattle.dm_types.specs.declared.item.Phase.{Phase}
 use Rattle.dm_types.specs.declared.item.Phase.TheVariants as phases
 use Rattle.dm_types.specs.declared.kinds.By.{By}
 use Rattle.dm_types.specs.declared.kinds.By.TheVariants.{User, Itself}
-use Rattle.dm_types.specs.declared.kinds.Mode.{Mode}
-use Rattle.dm_types.specs.declared.kinds.Mode.TheVariants as modes
 use Rattle.dm_types.specs.declared.slices.Slice.{Slice}
-use Rattle.dm_policy.specs.Mode.{asked_mode, asks_user, by_user, can_continue, from_start, is_continue, is_last_attempt, mode_by, placed_mode}
+use Rattle.dm_policy.specs.Mode.{is_continue}
 use Rattle.dm_slice.specs.Cover.{IsCover}
 use Rattle.dm_slice.specs.Words.{IsNormal, cover_end}
 use Rattle.dm_slice.proofs.Covers.{cover-normal}
@@ -29,7 +27,8 @@ use Rattle.dm_item.specs.History.{get}
 use Rattle.dm_item.specs.Lawful.{History, IsOf, items_of}
 use Rattle.dm_item.specs.Listing.{Admits, Listing, Row, applied, changed_at, item_in}
 use Rattle.dm_item.specs.Restored.{IsCovered, IsSound}
-use Rattle.dm_item.specs.Row.{IsBegun, begins_in, begun_item, changed, facts_of, mode_in, mode_of_item}
+use Rattle.dm_item.proofs.Continuing.{can_go_on}
+use Rattle.dm_item.specs.Row.{IsBegun, begins_in, begun_item, changed, facts_of, mode_of_item}
 use Rattle.dm_item.proofs.Shorts.{sound_in}
 use Rattle.dm_kept.specs.Files.{Covers, EndsLive, Facts, PartsStand, Says, live_of, says_all}
 use Rattle.dm_kept.specs.Spelled.{AllEntries}
@@ -48,38 +47,6 @@ use Rattle.dm_store.proofs.Lives.{idle_life}
 
 -- What goes on from where it stopped has a total.
 
-user_continues : (mode : Mode) → IsTrue (is_continue (by_user mode)) → IsTrue (is_continue mode)
-user_continues modes.Invalid is = is
-user_continues modes.ImmediateContinue is = refl
-user_continues modes.ImmediateRestart is = is
-user_continues modes.UserContinue is = refl
-user_continues modes.UserRestart is = is
-
-never_from_start : (mode : Mode) → is_continue (from_start mode) ≡ false
-never_from_start modes.Invalid = refl
-never_from_start modes.ImmediateContinue = refl
-never_from_start modes.ImmediateRestart = refl
-never_from_start modes.UserContinue = refl
-never_from_start modes.UserRestart = refl
-
-continue_placed : (last asks : Bool) (mode : Mode) → IsTrue (is_continue (cond last modes.Invalid (cond asks (by_user mode) mode))) → IsTrue (is_continue mode)
-continue_placed true asks mode is = absurd (false≢true is)
-continue_placed false true mode is = user_continues mode is
-continue_placed false false mode is = is
-
-continue_can : (can : Bool) (mode : Mode) → IsTrue (is_continue (cond can mode (from_start mode))) → IsTrue can
-continue_can true mode is = refl
-continue_can false mode is = absurd (false≢true (sym (never_from_start mode) ∙ is))
-
-continue_in : (phase : Phase) (mode : Mode) → IsTrue (is_continue (mode_in phase mode)) → IsTrue (is_continue mode)
-continue_in phases.Waiting mode is = is
-continue_in phases.Running mode is = is
-continue_in phases.Paused mode is = is
-continue_in (phases.Interrupted reason) mode is = is
-continue_in phases.Finishing mode is = absurd (false≢true is)
-continue_in phases.Complete mode is = absurd (false≢true is)
-continue_in phases.Cancelled mode is = absurd (false≢true is)
-
 middle_is : (a b c : Bool) → IsTrue (a && b && c) → IsTrue b
 middle_is true true c is = refl
 middle_is true false c is = absurd (false≢true is)
@@ -88,9 +55,7 @@ middle_is false b c is = absurd (false≢true is)
 total_told : (item : Item) → IsTrue (is_continue (mode_of_item item)) → is_some item.total ≡ true
 total_told item is =
     let facts = facts_of item in
-    middle_is facts.strong facts.total facts.covered
-    (continue_can (can_continue facts) (asked_mode item.reason)
-    (continue_placed (is_last_attempt facts) (asks_user facts) (placed_mode item.reason facts) (continue_in item.phase (mode_by item.reason facts) is)))
+    middle_is facts.strong facts.total facts.covered (can_go_on item is)
 
 -- no item begins that runs
 began_idle : (who : By) (phase : Phase) → IsTrue (begins_in who phase) → is_running phase ≡ false

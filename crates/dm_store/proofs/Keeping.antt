@@ -20,7 +20,7 @@ use Rattle.dm_record.specs.Limits.{IsEntry}
 use Rattle.dm_types.specs.declared.item.Item.{Item}
 use Rattle.dm_item.specs.Lawful.{History, IsOf, items_of}
 use Rattle.dm_item.specs.Listing.{Admits, Listing, Takes, applied}
-use Rattle.dm_item.proofs.Histories.{keeps_step}
+use Rattle.dm_item.proofs.Histories.{keeps_step, limit_applied}
 use Rattle.dm_journal.specs.AtRest.{AtRest, WithOrWithout, journal_name, journal_place}
 use Rattle.dm_part.proofs.Turns.{over_one}
 use Rattle.dm_kept.specs.Files.{Covers, EndsLive, Facts, IfGood, PartsStand, Says, says_all}
@@ -31,7 +31,7 @@ use Rattle.dm_kept.specs.Room.{MayFollow}
 use Rattle.dm_kept.specs.Spelled.{AllEntries, bodies_of}
 use Rattle.dm_kept.proofs.Frame.{names_stay}
 use Rattle.dm_kept.proofs.Histories.{entries_push, follows_more}
-use Rattle.dm_kept.proofs.Listings.{follows_of, limit_applied}
+use Rattle.dm_kept.proofs.Listings.{follows_of}
 use Rattle.dm_kept.proofs.Resting as resting
 use Rattle.dm_store.specs.declared.life.Life.{Life}
 use Rattle.dm_store.specs.Keeps.{Allows, Founded, Goes, HoldsOf, IsDesk, Keeps, RecordGoes, RestsBy, SoFar, StandBehind, added}

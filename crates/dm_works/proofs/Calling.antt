@@ -1,6 +1,6 @@
 -- What each call of a desk makes of it.
-use Rattle.std.proofs.Common.{◌≡◌, ◌⊎◌, inl, inr, ℕ, ◌<◌, Bool, true, false, List, [], ◌∷◌, ◌++◌, Option, Some, None, Result, Ok, Err, refl, sym, ◌∙◌, ap, subst, append_assoc, arith}
-use Rattle.std.specs.Prelude.{IsSomeAnd, filter, map, cond, ◌==◌}
+use Rattle.std.proofs.Common.{◌≡◌, ◌⊎◌, inl, inr, ℕ, ◌<◌, Bool, true, false, List, [], ◌∷◌, ◌++◌, Option, Some, None, Result, Ok, Err, sym, ◌∙◌, ap, subst, append_assoc, arith}
+use Rattle.std.specs.Prelude.{filter, map, cond, ◌==◌}
 use Rattle.std.proofs.lemmas.Bool.{false≢true}
 use Rattle.std.proofs.lemmas.List.{append-nil}
 use Rattle.dm_types.specs.Name.{IsPart}
@@ -17,7 +17,7 @@ use Rattle.dm_slice.specs.Cover.{normal_of}
 use Rattle.dm_item.specs.Fields.{is_running}
 use Rattle.dm_item.specs.Lawful.{History}
 use Rattle.dm_item.specs.Listing.{Listing}
-use Rattle.dm_store.specs.Becomes.{Becomes, Fell, Recorded}
+use Rattle.dm_store.specs.Becomes.{Fell, Recorded}
 use Rattle.dm_store.specs.Keeps.{IsDesk}
 use Rattle.dm_store.specs.Lives.{life_in}
 use Rattle.dm_store.specs.View.{View}
@@ -27,7 +27,6 @@ use Rattle.dm_answers.specs.Add.{AddAnswers, added_by}
 use Rattle.dm_answers.specs.Change.{ChangeAnswers}
 use Rattle.dm_answers.specs.Frame.{FellWith, FileBroke}
 use Rattle.dm_answers.specs.Pause.{PauseAnswers, PauseFell, pausing, saving_of}
-use Rattle.dm_answers.specs.Running.{saving}
 use Rattle.dm_answers.specs.Shut.{ShutAnswers, shuts}
 use Rattle.dm_answers.specs.Sweep.{IsLeftover, SweepAnswers}
 use Rattle.dm_answers.specs.declared.fault.DeskFault.{DeskFault}
@@ -36,27 +35,8 @@ use Rattle.dm_answers.specs.declared.order.Order.{Order}
 use Rattle.dm_answers.specs.declared.order.Taken.{Taken}
 use Rattle.dm_answers.specs.declared.order.Taken.TheVariants.{New, Same}
 use Rattle.dm_does.specs.Log.{ArePlain}
+use Rattle.dm_does.proofs.Plain.{plain_both, plain_front}
 use Rattle.dm_works.specs.Moving.{Moved, fell, recorded, same}
-use Rattle.dm_works.proofs.Stepping.{plain_then}
-
--- the front of entries that open no list
-plain_front : (a b : History) → ArePlain (a ++ b) → ArePlain a
-plain_front [] b plain = tt
-plain_front (entries.Reopened next at ∷ a) b plain = absurd plain
-plain_front (entries.Restored item ∷ a) b plain = absurd plain
-plain_front (entries.Added id word address wish digest at ∷ a) b plain = plain_front a b plain
-plain_front (entries.Began id attempt by at ∷ a) b plain = plain_front a b plain
-plain_front (entries.Described id key last_address total name modified ∷ a) b plain = plain_front a b plain
-plain_front (entries.Progress id slices ∷ a) b plain = plain_front a b plain
-plain_front (entries.Broke id reason ∷ a) b plain = plain_front a b plain
-plain_front (entries.Paused id ∷ a) b plain = plain_front a b plain
-plain_front (entries.Cancelled id ∷ a) b plain = plain_front a b plain
-plain_front (entries.Restarted id epoch because ∷ a) b plain = plain_front a b plain
-plain_front (entries.Finishing id total ∷ a) b plain = plain_front a b plain
-plain_front (entries.Done id digest at ∷ a) b plain = plain_front a b plain
-plain_front (entries.Removed id ∷ a) b plain = plain_front a b plain
-plain_front (entries.Archived id ∷ a) b plain = plain_front a b plain
-plain_front (entries.Asked id ∷ a) b plain = plain_front a b plain
 
 pub fell_moved : {D O : Type 0} (old new : View D O) (tries : History) → ArePlain tries → Fell old new tries → Moved old new
 fell_moved old new tries plain failed =
@@ -94,7 +74,7 @@ saved_plain item None = tt
 saved_plain item (Some life) = one_or_none (life.unsaved == 0) (entries.Progress item.id (normal_of item.total life.cover)) tt
 
 pub pausing_plain : (item : Item) (life : Option Life) → ArePlain (pausing item life)
-pausing_plain item life = plain_then (saving_of item life) (entries.Paused item.id ∷ []) (saved_plain item life) tt
+pausing_plain item life = plain_both (saving_of item life) (entries.Paused item.id ∷ []) (saved_plain item life) tt
 
 file_fell : {D O : Type 0} (before after : DiskKind → ℕ) (id : ItemId) (old new : View D O) → FellWith old new [] (FileBroke before after id) → Moved old new
 file_fell before after id old new with_one =

@@ -1,9 +1,8 @@
 -- What a desk's call answers is what the job does.
 use Rattle.std.proofs.Common.{◌≡◌, ◌⊎◌, inl, inr, ℕ, Bool, true, false, List, [], ◌∷◌, ◌++◌, Option, Some, None, Result, Ok, Err, refl, sym, ◌∙◌, ap, subst}
-use Rattle.std.specs.Prelude.{IfSome, IsTrue}
 use Rattle.std.proofs.lemmas.Bool.{false≢true}
 use Rattle.std.proofs.lemmas.List.{append-nil}
-use Rattle.dm_types.specs.Faults.{HasCause, Rose}
+use Rattle.dm_types.specs.Faults.{HasCause}
 use Rattle.dm_types.specs.declared.entry.Entry.{Entry}
 use Rattle.dm_types.specs.declared.entry.Entry.TheVariants as entries
 use Rattle.dm_types.specs.declared.item.Item.{Item}
@@ -16,7 +15,7 @@ use Rattle.dm_item.specs.Listing.{item_in}
 use Rattle.dm_item.specs.Row.{is_cancelled}
 use Rattle.dm_item.proofs.Shorts.{numbered_of}
 use Rattle.dm_report.specs.declared.verdict.Verdict.TheVariants as verdicts
-use Rattle.dm_store.specs.Becomes.{Fell, Recorded}
+use Rattle.dm_store.specs.Becomes.{Recorded}
 use Rattle.dm_store.specs.Keeps.{IsDesk}
 use Rattle.dm_store.specs.View.{View}
 use Rattle.dm_store.proofs.Composing.{becomes_then}
@@ -35,58 +34,38 @@ use Rattle.dm_does.specs.declared.course.Show.{Show}
 use Rattle.dm_does.specs.declared.course.Show.TheVariants.{Nothing, Line, Lines, Whole}
 use Rattle.dm_does.specs.declared.job.Job.{Job}
 use Rattle.dm_does.specs.declared.job.Job.TheVariants as jobs
-use Rattle.dm_does.specs.Deciding.{Decides, course_of, course_of_fault, course_of_order, did, fell, wanted}
+use Rattle.dm_does.specs.Deciding.{Decides, ShowsFault, course_of, course_of_order, did, fell, wanted}
 use Rattle.dm_does.specs.Doing.{Doing, does, ends, on_found}
-use Rattle.dm_does.proofs.Decisions.{add_decides, at_id, cancel_decides, given_of, id_of_found, none_did, remove_decides, resume_decides}
-use Rattle.dm_works.specs.Courses.{course_by, course_by_order, course_of_refusal}
+use Rattle.dm_does.proofs.Decisions.{add_decides, at_id, cancel_decides, fault_shows, given_of, id_of_found, none_did, remove_decides, resume_decides}
+use Rattle.dm_works.specs.Courses.{course_by, course_by_order}
 use Rattle.dm_service.specs.Api.{does_now, is_change}
-use Rattle.dm_works.specs.Deciding.{Decided, DecidesNow, DidAll, Refused, Settles, seen_of}
+use Rattle.dm_works.specs.Deciding.{DecidesNow, DidAll, Settles, seen_of}
 use Rattle.dm_works.specs.Deciding as deciding
 use Rattle.dm_works.specs.declared.deciding.Broken.{Broken}
-
--- where the course is that a call on the disk failed, the count of its kind rose
-abbrev pub ShowsKind : (DiskKind → ℕ) → (DiskKind → ℕ) → Course → Type 0
-ShowsKind before after (Ends (verdicts.DiskFailed kind) show) = Rose (before kind) (after kind)
-ShowsKind before after _ = Unit {0}
-
-fault_shows : (before after : DiskKind → ℕ) (fault : DeskFault) → IfSome (desk_kind fault) (λ kind. Rose (before kind) (after kind)) → ShowsKind before after (course_of_fault fault)
-fault_shows before after (faults.NoItem id) cause = tt
-fault_shows before after (faults.WrongState phase) cause = tt
-fault_shows before after (faults.Stale attempt round) cause = tt
-fault_shows before after (faults.NotNext place) cause = tt
-fault_shows before after (faults.PastEnd end) cause = tt
-fault_shows before after (faults.CheckpointDue bytes) cause = tt
-fault_shows before after (faults.ItemsFull count) cause = tt
-fault_shows before after (faults.WordTaken id) cause = tt
-fault_shows before after (faults.File kind) cause = cause
-fault_shows before after (faults.Journal kind) cause = cause
-fault_shows before after faults.Broken cause = tt
-fault_shows before after faults.NoMemory cause = tt
-fault_shows before after (faults.Damaged place) cause = tt
 
 -- a course that is no failure of the disk
 abbrev pub IsGood : Course → Type 0
 IsGood (Ends (verdicts.DiskFailed kind) show) = ⊥
 IsGood _ = Unit {0}
 
-good_shows : (before after : DiskKind → ℕ) (course : Course) → IsGood course → ShowsKind before after course
+good_shows : (before after : DiskKind → ℕ) (course : Course) → IsGood course → ShowsFault before after course
 good_shows before after (Ends (verdicts.DiskFailed kind) show) good = absurd good
 good_shows before after (Ends verdict show) good = tt
 good_shows before after (Brings id slices) good = tt
 
-change_shows : (before after : DiskKind → ℕ) (course : Course) (answer : Result (Unit {0}) DeskFault) → IsGood course → HasCause desk_kind before after answer → ShowsKind before after (course_of course answer)
+change_shows : (before after : DiskKind → ℕ) (course : Course) (answer : Result (Unit {0}) DeskFault) → IsGood course → HasCause desk_kind before after answer → ShowsFault before after (course_of course answer)
 change_shows before after course (Ok done) good cause = good_shows before after course good
 change_shows before after course (Err fault) good cause = fault_shows before after fault cause.cause
 
-order_shows : (before after : DiskKind → ℕ) (answer : Result Taken DeskFault) → HasCause desk_kind before after answer → ShowsKind before after (course_of_order (λ id. Ends verdicts.Done (Line id)) (λ id. Ends verdicts.Done (Line id)) answer)
+order_shows : (before after : DiskKind → ℕ) (answer : Result Taken DeskFault) → HasCause desk_kind before after answer → ShowsFault before after (course_of_order (λ id. Ends verdicts.Done (Line id)) (λ id. Ends verdicts.Done (Line id)) answer)
 order_shows before after (Ok (New id)) cause = tt
 order_shows before after (Ok (Same id)) cause = tt
 order_shows before after (Err fault) cause = fault_shows before after fault cause.cause
 
 module _ {D O : Type 0} (counts : D → DiskKind → ℕ) (doing : Doing) (old new : View D O) where
-  pub settled : (course : Course) → Decides doing old new course → ShowsKind (counts old.disk) (counts new.disk) course → Settles counts doing old new course
+  pub settled : (course : Course) → Decides doing old new course → ShowsFault (counts old.disk) (counts new.disk) course → Settles counts doing old new course
   settled course (did there is) shows = deciding.did there is
-  settled course (fell kind failed is) shows = deciding.fell kind (subst (ShowsKind (counts old.disk) (counts new.disk)) is shows) (inl failed) is
+  settled course (fell kind failed is) shows = deciding.fell kind (subst (ShowsFault (counts old.disk) (counts new.disk)) is shows) (inl failed) is
   settled course (wanted same is) shows = deciding.wanted same is
 
   pub decided : (course : Course) → old.broken ≡ false → Settles counts doing old new course → DecidesNow counts true doing old new (Ok course)

@@ -1,44 +1,23 @@
 -- Calls on a desk, one behind another.
-use Rattle.std.proofs.Common.{◌≡◌, ℕ, Bool, true, false, List, [], ◌∷◌, ◌++◌, refl, sym, ◌∙◌, ap, subst, append_assoc, arith}
+use Rattle.std.proofs.Common.{◌≡◌, ℕ, true, false, [], ◌∷◌, ◌++◌, refl, sym, ◌∙◌, ap, subst, append_assoc, arith}
 use Rattle.std.proofs.lemmas.Bool.{false≢true}
 use Rattle.std.proofs.lemmas.List.{append-nil}
 use Rattle.dm_types.specs.Faults.{NoneFell}
 use Rattle.dm_types.specs.Name.{IsPart}
-use Rattle.dm_types.specs.declared.entry.Entry.{Entry}
-use Rattle.dm_types.specs.declared.entry.Entry.TheVariants as entries
 use Rattle.dm_types.specs.declared.kinds.DiskKind.{DiskKind}
-use Rattle.dm_disk_model.specs.Beside.{Besides}
 use Rattle.dm_disk_model.specs.Disk.{History as Clock}
 use Rattle.dm_disk_model.specs.Moments.{KeepsFiles}
 use Rattle.dm_disk_model.proofs.Beside.{besides_same, besides_stay, besides_then}
 use Rattle.dm_item.specs.Lawful.{History}
 use Rattle.dm_kept.specs.Files.{Says}
-use Rattle.dm_store.specs.Becomes.{Becomes, Recorded}
+use Rattle.dm_store.specs.Becomes.{Recorded}
 use Rattle.dm_store.specs.Keeps.{Keeps, StaysNear}
 use Rattle.dm_store.specs.View.{View}
 use Rattle.dm_store.proofs.Composing.{becomes_then, near_then}
 use Rattle.dm_store.proofs.Keeping.{keeps_same, keeps_then}
 use Rattle.dm_does.specs.Log.{ArePlain}
+use Rattle.dm_does.proofs.Plain.{plain_both}
 use Rattle.dm_works.specs.Moving.{Moved, Steps, fell, recorded, same}
-
--- entries that open no list, one behind another
-pub plain_then : (first second : History) → ArePlain first → ArePlain second → ArePlain (first ++ second)
-plain_then [] second one two = two
-plain_then (entries.Reopened next at ∷ more) second one two = absurd one
-plain_then (entries.Restored item ∷ more) second one two = absurd one
-plain_then (entries.Added id word address wish digest at ∷ more) second one two = plain_then more second one two
-plain_then (entries.Began id attempt by at ∷ more) second one two = plain_then more second one two
-plain_then (entries.Described id key last_address total name modified ∷ more) second one two = plain_then more second one two
-plain_then (entries.Progress id slices ∷ more) second one two = plain_then more second one two
-plain_then (entries.Broke id reason ∷ more) second one two = plain_then more second one two
-plain_then (entries.Paused id ∷ more) second one two = plain_then more second one two
-plain_then (entries.Cancelled id ∷ more) second one two = plain_then more second one two
-plain_then (entries.Restarted id epoch because ∷ more) second one two = plain_then more second one two
-plain_then (entries.Finishing id total ∷ more) second one two = plain_then more second one two
-plain_then (entries.Done id digest at ∷ more) second one two = plain_then more second one two
-plain_then (entries.Removed id ∷ more) second one two = plain_then more second one two
-plain_then (entries.Archived id ∷ more) second one two = plain_then more second one two
-plain_then (entries.Asked id ∷ more) second one two = plain_then more second one two
 
 -- a desk that is as before
 pub steps_same : {D O : Type 0} (tells : Type 0) (clock : D → Clock) (counts : D → DiskKind → ℕ) (far : D → ℕ) (says : O → Says) (desk : View D O) → Steps tells clock counts far says desk desk
@@ -79,10 +58,10 @@ module _ {D O : Type 0} (tells : Type 0) (clock : D → Clock) (counts : D → D
   behind first plain becomes (same is) =
       joined first becomes (recorded first plain (subst (λ (v : View D O). Recorded old v first) (sym is) becomes)) [] (ap (λ (v : View D O). v.list) is ∙ sym (append-nil mid.list))
   behind first plain becomes (recorded second plain_too next) =
-      joined first becomes (recorded (first ++ second) (plain_then first second plain plain_too) (becomes_then old mid new first becomes second [] false next)) second next.list_is
+      joined first becomes (recorded (first ++ second) (plain_both first second plain plain_too) (becomes_then old mid new first becomes second [] false next)) second next.list_is
   behind first plain becomes (fell second entry plain_too next) =
       joined first becomes
-      (fell (first ++ second) entry (subst ArePlain (sym (append_assoc first second (entry ∷ []))) (plain_then first (second ++ entry ∷ []) plain plain_too)) (becomes_then old mid new first becomes second (entry ∷ []) true next))
+      (fell (first ++ second) entry (subst ArePlain (sym (append_assoc first second (entry ∷ []))) (plain_both first (second ++ entry ∷ []) plain plain_too)) (becomes_then old mid new first becomes second (entry ∷ []) true next))
       second next.list_is
 
   -- a desk that is broken takes no more
