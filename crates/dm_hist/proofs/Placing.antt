@@ -28,7 +28,7 @@ filter_front p (row ∷ rows) (suc i) within passes fails =
     (filter_front p rows i (omega (arith, within)) (λ k d less. passes (suc k) d (omega (arith, less))) (λ k d from less. fails (suc k) d (omega (arith, from)) (omega (arith, less)))))
 
 -- and they are what is behind, where those alone pass
-filter_behind : (p : Row → Bool) (rows : List Row) (i : ℕ) → i ≤ length rows
+pub filter_behind : (p : Row → Bool) (rows : List Row) (i : ℕ) → i ≤ length rows
     → ((k : ℕ) (d : Row) → k < i → p (get_or rows k d) ≡ false) → ((k : ℕ) (d : Row) → i ≤ k → k < length rows → p (get_or rows k d) ≡ true)
     → filter p rows ≡ drop i rows
 filter_behind p [] zero within fails passes = refl
@@ -41,10 +41,10 @@ filter_behind p (row ∷ rows) (suc i) within fails passes =
     rw (fails 0 row (omega arith))
     (filter_behind p rows i (omega (arith, within)) (λ k d less. fails (suc k) d (omega (arith, less))) (λ k d from less. passes (suc k) d (omega (arith, from)) (omega (arith, less))))
 
-less_is : (a b : ℕ) → a < b → nat_lt a b ≡ true
+pub less_is : (a b : ℕ) → a < b → nat_lt a b ≡ true
 less_is a b less = grind (arith, nat_tests)
 
-less_not : (a b : ℕ) → b ≤ a → nat_lt a b ≡ false
+pub less_not : (a b : ℕ) → b ≤ a → nat_lt a b ≡ false
 less_not a b least = grind (arith, nat_tests)
 
 module _ (rows : List Row) (are : AreRows rows) (id : ℕ) where

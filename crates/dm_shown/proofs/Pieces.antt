@@ -1,5 +1,5 @@
 -- How the pieces of a page are the page.
-use Rattle.std.proofs.Common.{◌≡◌, ℕ, suc, zero, ◌+◌, ◌-◌, ◌<◌, ◌≤◌, Bool, true, false, cond, List, [], ◌∷◌, ◌++◌, length, get_or, take, drop, Some, None, refl, sym, ◌∙◌, ap, subst, arith, append_assoc}
+use Rattle.std.proofs.Common.{◌≡◌, ℕ, ◌+◌, ◌-◌, ◌<◌, ◌≤◌, Bool, true, false, cond, List, [], ◌∷◌, ◌++◌, length, get_or, take, drop, Some, None, refl, sym, ◌∙◌, ap, subst, arith, append_assoc}
 use Rattle.std.specs.Prelude.{min, nat_lt, not, slice_get}
 use Rattle.std.specs.List.{All, AllPairs, filter}
 use Rattle.std.proofs.Math.Bool.{and-true}
@@ -15,6 +15,7 @@ use Rattle.dm_hist.specs.declared.row.Row.{Row}
 use Rattle.dm_hist.specs.declared.row.RowFilter.{RowFilter}
 use Rattle.dm_hist.specs.Rows.{is_due, page_of, rows_above}
 use Rattle.dm_hist.specs.Shown.{is_listed, shown}
+use Rattle.dm_hist.proofs.Placing.{filter_behind, less_is, less_not}
 use Rattle.dm_shown.specs.Pages.{shown_page}
 use Rattle.dm_shown.specs.Paging.{Adds, id_above, next_from}
 
@@ -42,26 +43,6 @@ filter_filter : (p q : Row → Bool) → ((x : Row) → p x ≡ true → q x ≡
 filter_filter p q leads [] = refl
 filter_filter p q leads (row ∷ rows) =
     within p q row rows leads (filter_filter p q leads rows) (p row) (q row) refl refl
-
--- the rows that pass are those behind a place, where those alone pass
-behind : (p : Row → Bool) (rows : List Row) (i : ℕ) → i ≤ length rows
-    → ((k : ℕ) (d : Row) → k < i → p (get_or rows k d) ≡ false) → ((k : ℕ) (d : Row) → i ≤ k → k < length rows → p (get_or rows k d) ≡ true)
-    → filter p rows ≡ drop i rows
-behind p [] zero less fails passes = refl
-behind p [] (suc i) less fails passes = absurd (omega (arith, less))
-behind p (row ∷ rows) zero less fails passes =
-    rw (passes 0 row (omega arith) (omega arith))
-    (ap (λ (later : List Row). row ∷ later)
-    (behind p rows 0 (omega arith) (λ k d few. absurd (omega (arith, few))) (λ k d from few. passes (suc k) d (omega arith) (omega (arith, few)))))
-behind p (row ∷ rows) (suc i) less fails passes =
-    rw (fails 0 row (omega arith))
-    (behind p rows i (omega (arith, less)) (λ k d few. fails (suc k) d (omega (arith, few))) (λ k d from few. passes (suc k) d (omega (arith, from)) (omega (arith, few))))
-
-less_is : (a b : ℕ) → a < b → nat_lt a b ≡ true
-less_is a b less = grind (arith, nat_tests)
-
-less_not : (a b : ℕ) → b ≤ a → nat_lt a b ≡ false
-less_not a b least = grind (arith, nat_tests)
 
 less_from : (a b : ℕ) → nat_lt a b ≡ true → a < b
 less_from a b is = grind (arith, nat_tests, is)
@@ -106,7 +87,7 @@ module _ (rows : List Row) (rise : Rises rows) (from wanted : ℕ) (d : Row) whe
     pub rest_above : rows_above last rows ≡ drop wanted (rows_above from rows)
     rest_above =
         sym (filter_filter (λ (row : Row). nat_lt last row.id.0) (λ (row : Row). nat_lt from row.id.0) (λ x is. less_is from x.id.0 (let far = less_from last x.id.0 is in let near = last_above in omega (arith, far, near))) rows)
-        ∙ behind (λ (row : Row). nat_lt last row.id.0) (rows_above from rows) wanted many
+        ∙ filter_behind (λ (row : Row). nat_lt last row.id.0) (rows_above from rows) wanted many
         (λ k e less. less_not last (get_or (rows_above from rows) k e).id.0 (subst (λ (row : Row). (get_or (rows_above from rows) k e).id.0 ≤ row.id.0) (same_last e) (not_later k e less)))
         (λ k e le less. less_is last (get_or (rows_above from rows) k e).id.0
         (subst (λ (row : Row). row.id.0 < (get_or (rows_above from rows) k e).id.0) (same_last e) (above_rise (wanted - 1) k e (omega (arith, some, le)) less)))
