@@ -31,6 +31,7 @@ use Rattle.dm_store.specs.View.{View}
 use Rattle.dm_store.specs.declared.life.Life.{Life}
 use Rattle.dm_store.proofs.Begun.{pushed_own}
 use Rattle.dm_answers.specs.Begin.{because_of, beginning, begins_anew, epoch_behind, key_behind, may_begin}
+use Rattle.dm_disk_model.specs.Disk.{History as Clock}
 use Rattle.dm_attempt.specs.Scene.{Scene, changed_all, told_by}
 use Rattle.dm_attempt.specs.Trace.{Tale}
 use Rattle.dm_attempt.proofs.Items.{all_id, item_then}
