@@ -1,5 +1,5 @@
 -- What attempts keep of a desk.
-use Rattle.std.proofs.Common.{◌≡◌, ℕ, false, [], List, refl, sym, ◌∙◌, ap, subst}
+use Rattle.std.proofs.Common.{◌≡◌, ℕ, Bool, false, [], List, refl, sym, ◌∙◌, ap, subst}
 use Rattle.dm_types.specs.declared.item.Item.{Item}
 use Rattle.dm_types.specs.declared.item.ItemId.{ItemId}
 use Rattle.dm_types.specs.declared.kinds.By.{By}
@@ -49,34 +49,34 @@ module _ {D O : Type 0} (tells : Type 0) (clock : D → Clock) (says : O → Say
     abbrev scene : Scene D O
     scene = scene_of old item by at was before
 
-    ended_goes : (trace : Trace) (end : Ended) → EndedBy tells clock says far counts net scene (pass_of item) new before after trace end → Goes tells clock says old new
-    ended_goes trace ended.Complete ends = record { keeps = ends.over.goes.keeps; origin = ends.over.goes.went.origin }
-    ended_goes trace (ended.Stopped reason) ends = record { keeps = ends.over.goes.keeps; origin = ends.over.goes.went.origin }
-    ended_goes trace (ended.Fault faults.NoMemory) ends = record { keeps = ends.1.goes.keeps; origin = ends.1.goes.went.origin }
-    ended_goes trace (ended.Fault (faults.File kind)) ends = record { keeps = ends.1.1.goes.keeps; origin = ends.1.1.goes.went.origin }
-    ended_goes trace (ended.Fault (faults.Journal kind)) ends = record { keeps = ends.1.goes.keeps; origin = ends.1.goes.went.origin }
-    ended_goes trace (ended.Fault fault) ends = absurd ends
+    ended_goes : (came : Bool) (trace : Trace) (end : Ended) → EndedBy came tells clock says far counts net scene (pass_of item) new before after trace end → Goes tells clock says old new
+    ended_goes came trace ended.Complete ends = record { keeps = ends.over.goes.keeps; origin = ends.over.goes.went.origin }
+    ended_goes came trace (ended.Stopped reason) ends = record { keeps = ends.over.goes.keeps; origin = ends.over.goes.went.origin }
+    ended_goes came trace (ended.Fault faults.NoMemory) ends = record { keeps = ends.1.goes.keeps; origin = ends.1.goes.went.origin }
+    ended_goes came trace (ended.Fault (faults.File kind)) ends = record { keeps = ends.1.1.goes.keeps; origin = ends.1.1.goes.went.origin }
+    ended_goes came trace (ended.Fault (faults.Journal kind)) ends = record { keeps = ends.1.goes.keeps; origin = ends.1.goes.went.origin }
+    ended_goes came trace (ended.Fault fault) ends = absurd ends
 
   pub attempt_goes : (old new : View D O) (was closed : List Closed) (before after : NetFault → ℕ) (by : By) (end : Ended)
       → Attempts tells clock says far counts net old new was closed before after id by slices at end → Goes tells clock says old new
   attempt_goes old new was closed before after by end (wanting end_is same still) = stayed old new same
   attempt_goes old new was closed before after by end (refused fault end_is refuses still) = not_begun old new by fault refuses
-  attempt_goes old new was closed before after by end (tried found) = ended_goes old new was before after by found.item found.is.trace end found.is.ends
+  attempt_goes old new was closed before after by end (tried found) = ended_goes old new was before after by found.item found.is.came found.is.trace end found.is.ends
 
   by_fault : (end : Ended) (fault : DeskFault) (new : View D O) → end ≡ ended.Fault fault → EndsWhole end new
   by_fault end fault new is = subst (λ (e : Ended). EndsWhole e new) (sym is) tt
 
-  ended_whole : (old new : View D O) (was : List Closed) (before after : NetFault → ℕ) (by : By) (item : Item) (trace : Trace) (end : Ended)
-      → EndedBy tells clock says far counts net (scene_of old item by at was before) (pass_of item) new before after trace end → EndsWhole end new
-  ended_whole old new was before after by item trace ended.Complete ends = (ends.over.goes.went.broken_is, ends.over.goes.went.failed_is)
-  ended_whole old new was before after by item trace (ended.Stopped reason) ends = (ends.over.goes.went.broken_is, ends.over.goes.went.failed_is)
-  ended_whole old new was before after by item trace (ended.Fault fault) ends = tt
+  ended_whole : (old new : View D O) (was : List Closed) (before after : NetFault → ℕ) (by : By) (item : Item) (came : Bool) (trace : Trace) (end : Ended)
+      → EndedBy came tells clock says far counts net (scene_of old item by at was before) (pass_of item) new before after trace end → EndsWhole end new
+  ended_whole old new was before after by item came trace ended.Complete ends = (ends.over.goes.went.broken_is, ends.over.goes.went.failed_is)
+  ended_whole old new was before after by item came trace (ended.Stopped reason) ends = (ends.over.goes.went.broken_is, ends.over.goes.went.failed_is)
+  ended_whole old new was before after by item came trace (ended.Fault fault) ends = tt
 
   attempt_whole : (old new : View D O) (was closed : List Closed) (before after : NetFault → ℕ) (by : By) (end : Ended)
       → Attempts tells clock says far counts net old new was closed before after id by slices at end → EndsWhole end new
   attempt_whole old new was closed before after by end (wanting end_is same still) = by_fault end faults.NoMemory new end_is
   attempt_whole old new was closed before after by end (refused fault end_is refuses still) = by_fault end fault new end_is
-  attempt_whole old new was closed before after by end (tried found) = ended_whole old new was before after by found.item found.is.trace end found.is.ends
+  attempt_whole old new was closed before after by end (tried found) = ended_whole old new was before after by found.item found.is.came found.is.trace end found.is.ends
 
   pub record FetchGoes (old new : View D O) (end : Ended) : Type 0 where
     pub goes : Goes tells clock says old new
