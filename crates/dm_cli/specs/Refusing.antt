@@ -2,18 +2,19 @@
 use Rattle.std.specs.Prelude.{◌≡◌, ◌⊎◌, ℕ, List}
 use Rattle.dm_report.specs.Said.{Said, only}
 use Rattle.dm_report.specs.declared.verdict.Verdict.{Verdict}
-use Rattle.dm_report.specs.declared.verdict.Verdict.TheVariants.{BadWords, BadAddress}
+use Rattle.dm_report.specs.declared.verdict.Verdict.TheVariants.{BadWords, BadAddress, NoMemory}
 use Rattle.dm_does.specs.Jobs.{AskNothing, HasAddress, HasBadAddress, HasSomeJob}
 use Rattle.dm_past.specs.All.{AsksNoTask}
 use Rattle.dm_past.specs.Words.{HasTask}
 use Rattle.dm_past.specs.declared.task.Task.{Task}
 use Rattle.dm_import.specs.Words.{HasImport}
-use Rattle.dm_cli.specs.Program.{AsksNoImport}
+use Rattle.dm_cli.specs.Program.{AsksNoImport, AsksNoRehearsal, HasRehearsal}
 
--- no command of the list, or one for an address that is none
+-- no command of the list, or one for an address that is none, or memory was wanting to read it
 abbrev pub IsRefusedFor : List (List ℕ) → Verdict → Type 0
 IsRefusedFor words BadWords = AskNothing words
 IsRefusedFor words BadAddress = HasBadAddress words
+IsRefusedFor words NoMemory = HasAddress words
 IsRefusedFor words _ = ⊥
 
 -- that is said, and nothing else
@@ -25,12 +26,12 @@ abbrev pub RefusesTask : List (List ℕ) → Said → Type 0
 RefusesTask words said = AsksNoTask words × RefusesJob words said
 
 -- nor for an import
-abbrev pub RefusesSo : List (List ℕ) → Said → Type 0
-RefusesSo words said = AsksNoImport words × RefusesTask words said
+abbrev pub RefusesImport : List (List ℕ) → Said → Type 0
+RefusesImport words said = AsksNoImport words × RefusesTask words said
 
--- the words are a command of the list: they are a job, or memory was wanting to read their address
-abbrev pub IsSomeJob : List (List ℕ) → Type 0
-IsSomeJob words = HasSomeJob words ⊎ HasAddress words
+-- nor for a rehearsal
+abbrev pub RefusesSo : List (List ℕ) → Said → Type 0
+RefusesSo words said = AsksNoRehearsal words × RefusesImport words said
 
 -- the words ask for a task of the history
 pub record IsSomeTask (words : List (List ℕ)) : Type 0 where
@@ -39,13 +40,22 @@ pub record IsSomeTask (words : List (List ℕ)) : Type 0 where
 
 -- a command of the list or of the history
 abbrev pub IsListed : List (List ℕ) → Type 0
-IsListed words = IsSomeTask words ⊎ IsSomeJob words
+IsListed words = IsSomeTask words ⊎ HasSomeJob words
 
 -- the words ask for an import
 pub record IsSomeImport (words : List (List ℕ)) : Type 0 where
   pub name : List ℕ
   pub has : HasImport words name
 
+-- a command that is done on the list and the history
+abbrev pub IsDone : List (List ℕ) → Type 0
+IsDone words = IsSomeImport words ⊎ IsListed words
+
+-- the words ask for a rehearsal
+pub record IsSomeRehearsal (words : List (List ℕ)) : Type 0 where
+  pub number : ℕ
+  pub has : HasRehearsal words number
+
 -- the words are a command
 abbrev pub IsSomeCommand : List (List ℕ) → Type 0
-IsSomeCommand words = IsSomeImport words ⊎ IsListed words
+IsSomeCommand words = IsSomeRehearsal words ⊎ IsDone words

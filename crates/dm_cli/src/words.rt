@@ -3,13 +3,15 @@ ghost use Rattle.std.specs.Prelude.{ℕ, List, IfSome, IfNone};
 ghost use Rattle.dm_store.specs.Origin.{said_of};
 ghost use Rattle.dm_list.specs.Running.{ExplainsAll};
 ghost use Rattle.dm_list.specs.Writing.{outputs_of};
-ghost use Rattle.dm_cli.specs.Refusing.{IsListed, IsSomeCommand, IsSomeJob, RefusesJob, RefusesSo, RefusesTask};
+ghost use Rattle.dm_does.specs.Jobs.{HasSomeJob};
+ghost use Rattle.dm_cli.specs.Refusing.{IsDone, IsListed, IsSomeCommand, RefusesImport, RefusesJob, RefusesSo, RefusesTask};
 
 use dm_disk_model::Disk;
 use dm_edge::{Clock, Net, Sink};
 use dm_import::read_import;
 use dm_list::{Ran, read_job, run_list};
 use dm_past::read_task;
+use dm_rehearse_run::read_rehearsal;
 use dm_report::{Ending, Verdict};
 use dm_types::{Text, let_go};
 use std::alloc::Global;
@@ -36,7 +38,7 @@ pub fn run_words<D: Disk, N: Net, C: Clock, S: Sink>(
 /// The same as `refused`, of words that ask for no task of the history.
 fn refused_job(alloc: Global, words: &[Text]) -> Option<Ending>
     ensures refused { IfSome result (RefusesJob words.now) }
-    ensures none { IfNone result (IsSomeJob words.now) }
+    ensures none { IfNone result (HasSomeJob words.now) }
 {
     match read_job(alloc, words) {
         Ok(job) => {
@@ -45,7 +47,7 @@ fn refused_job(alloc: Global, words: &[Text]) -> Option<Ending>
         }
         Err(Verdict::BadWords) => Some(Ending::fixed(alloc, Verdict::BadWords)),
         Err(Verdict::BadAddress) => Some(Ending::fixed(alloc, Verdict::BadAddress)),
-        Err(_) => None,
+        Err(_) => Some(Ending::fixed(alloc, Verdict::NoMemory)),
     }
 }
 
@@ -60,14 +62,25 @@ fn refused_task(alloc: Global, words: &[Text]) -> Option<Ending>
     }
 }
 
-/// Whether the words are refused before any disk is looked at, and what is said then: they are no command, or
-/// their address is refused. `None` where they are a command, or memory was wanting to read it.
-pub fn refused(alloc: Global, words: &[Text]) -> Option<Ending>
-    ensures refused { IfSome result (RefusesSo words.now) }
-    ensures none { IfNone result (IsSomeCommand words.now) }
+/// The same of words that ask for no rehearsal.
+fn refused_import(alloc: Global, words: &[Text]) -> Option<Ending>
+    ensures refused { IfSome result (RefusesImport words.now) }
+    ensures none { IfNone result (IsDone words.now) }
 {
     match read_import(words) {
         Some(_) => None,
         None => refused_task(alloc, words),
+    }
+}
+
+/// Whether the words are refused before any disk is looked at, and what is said then: they are no command, or
+/// their address is refused, or memory was wanting to read it. `None` where they are a command.
+pub fn refused(alloc: Global, words: &[Text]) -> Option<Ending>
+    ensures refused { IfSome result (RefusesSo words.now) }
+    ensures none { IfNone result (IsSomeCommand words.now) }
+{
+    match read_rehearsal(words) {
+        Some(_) => None,
+        None => refused_import(alloc, words),
     }
 }
