@@ -1,5 +1,5 @@
 -- What was landed of one content is what the part reads.
-use Rattle.std.proofs.Common.{◌≡◌, ◌⊎◌, inl, inr, ◌<◌, ◌≤◌, ℕ, ◌+◌, ◌-◌, zero, suc, Bool, true, false, ◌&&◌, IsTrue, List, [], ◌∷◌, ◌++◌, length, map, get_or, Option, Some, None, refl, sym, ◌∙◌, ap, subst, arith}
+use Rattle.std.proofs.Common.{◌≡◌, ◌⊎◌, inl, inr, ◌<◌, ◌≤◌, ℕ, ◌+◌, ◌-◌, zero, suc, Bool, ◌&&◌, IsTrue, List, [], ◌∷◌, ◌++◌, length, map, get_or, Option, Some, None, refl, sym, ◌∙◌, ap, subst, arith}
 use Rattle.std.specs.Prelude.{IsSome, is_some, slice_get}
 use Rattle.std.specs.Option.{option_map}
 use Rattle.std.proofs.lemmas.Bool.{cases_lt, false≢true}
@@ -13,10 +13,9 @@ use Rattle.dm_disk_model.specs.Disk.{History as Clock, now}
 use Rattle.dm_disk_model.specs.File.{overwrite}
 use Rattle.dm_disk_model.specs.Folder.{Folder, contents_of, names_of}
 use Rattle.dm_disk_model.proofs.FileBytes.{length-overwrite, overwrite_after, overwrite_before, overwrite_within}
-use Rattle.dm_slice.specs.Cover.{IsAdded, IsCover, grown, next_of, normal_of}
+use Rattle.dm_slice.specs.Cover.{IsAdded, IsCover, grown, next_of}
 use Rattle.dm_slice.specs.Plan.{opened_by}
 use Rattle.dm_slice.specs.Words.{HasByte, end_of}
-use Rattle.dm_slice.specs.declared.plan.Part.{Part}
 use Rattle.dm_slice.proofs.Covers.{places-grown}
 use Rattle.dm_slice.proofs.Joins.{normal_of-meaning}
 use Rattle.dm_slice.proofs.Sums.{places-planned}
@@ -30,7 +29,7 @@ use Rattle.dm_store.specs.View.{View}
 use Rattle.dm_store.specs.declared.life.Life.{Life}
 use Rattle.dm_store.proofs.Keeping.{at_rest}
 use Rattle.dm_answers.specs.Running.{RunsWith, part_bytes}
-use Rattle.dm_attempt.specs.Brought.{AreOf, HasAt, HasCover, RoundsOf, SharesOf}
+use Rattle.dm_attempt.specs.Brought.{AreOf, HasAt, HasCover, SharesOf}
 use Rattle.dm_attempt.specs.Shares.{Share, added}
 use Rattle.dm_attempt.specs.Trace.{AreAtEnds, filled}
 use Rattle.dm_attempt.proofs.Filling.{filled_grown, filled_next}
