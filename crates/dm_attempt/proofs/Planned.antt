@@ -263,6 +263,7 @@ module _ {D O : Type 0} (tells : Type 0) (clock : D → Clock) (says : O → Say
         cause = causes.NamesTaken;
         reason_is = refl;
         met = inl (none_met (record { listed = one.is.listed; lists = one.is.lists; is = one.is.is.all }));
+        asked = tt;
         saves = [];
         over = over_by tells clock says far counts scene pass old new call mine causes.NamesTaken live (subst (λ (e : Entry). Recorded old new (e ∷ [])) one.is.is.is one.recorded);
       },

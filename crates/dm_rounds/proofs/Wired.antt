@@ -155,6 +155,7 @@ module _ {D O : Type 0} (tells : Type 0) (clock : D → Clock) (says : O → Say
     cause = holds.cause;
     reason_is = holds.reason_is;
     met = cause_wired round wires older pass holds.cause holds.met;
+    asked = holds.asked;
     saves = holds.saves;
     over = over_wired round wires (with_saves older holds.saves) desk (Broken holds.cause) holds.over;
   }
