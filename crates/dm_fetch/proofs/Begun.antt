@@ -16,7 +16,6 @@ use Rattle.dm_types.specs.declared.kinds.By.{By}
 use Rattle.dm_types.specs.declared.kinds.By.TheVariants.{Itself, User}
 use Rattle.dm_types.specs.declared.kinds.Mode.{Mode}
 use Rattle.dm_types.specs.declared.kinds.Mode.TheVariants as modes
-use Rattle.dm_disk_model.specs.Disk.{History as Clock}
 use Rattle.dm_policy.specs.Mode.{is_continue, is_restart}
 use Rattle.dm_item.specs.Fields.{is_running, no_bytes}
 use Rattle.dm_item.specs.Lawful.{History}
