@@ -51,16 +51,10 @@ use Rattle.dm_attempt.specs.Live.{LiveDesk}
 use Rattle.dm_attempt.specs.Scene.{Scene, cover_by, told_by}
 use Rattle.dm_attempt.specs.Shows.{BeginMet, DeskMet, ShowsEnd, total_by}
 use Rattle.dm_attempt.specs.Trace.{Tale, Trace, told_entries}
+use Rattle.dm_attempt.proofs.Brought.{bytes_there}
 use Rattle.dm_attempt.proofs.Items.{all_saves, found_id}
 use Rattle.dm_fetch.specs.Completes.{HasFree, names_begun}
 use Rattle.dm_fetch.proofs.Begun.{and_left}
-
-bytes_by : (folder : Folder) (name : List ℕ) (found : Option ℕ) → names_of folder name ≡ found → IsSome found → (bytes : List ℕ) × (contents_of folder name ≡ Some bytes)
-bytes_by folder name None is some = absurd (false≢true some)
-bytes_by folder name (Some number) is some = ((folder.file number).bytes, ap (option_map (λ (n : ℕ). (folder.file n).bytes)) is)
-
-bytes_there : (folder : Folder) (name : List ℕ) → IsSome (names_of folder name) → (bytes : List ℕ) × (contents_of folder name ≡ Some bytes)
-bytes_there folder name some = bytes_by folder name (names_of folder name) refl some
 
 -- Of a good disk each live place of a part has a byte.
 

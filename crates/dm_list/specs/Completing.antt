@@ -1,5 +1,5 @@
 -- When a run completes the item that it brings.
-use Rattle.std.specs.Prelude.{◌≡◌, ◌⊎◌, ℕ, true, List, ◌++◌, length, reverse, Some, IfSome, IsTrue}
+use Rattle.std.specs.Prelude.{◌≡◌, ◌⊎◌, ℕ, true, List, ◌++◌, reverse, Some, IfSome, IsTrue}
 use Rattle.dm_types.specs.Faults.{NoneRose}
 use Rattle.dm_types.specs.Limits.{most_items}
 use Rattle.dm_types.specs.declared.item.Item.{Item}
@@ -41,13 +41,14 @@ pub record IsFavoured {D O : Type 0} (clock : D → Clock) (says : O → Says) (
   pub free : (wish : List ℕ) → IsCleaned wish → HasFree clock desk (names_begun desk item User at) wish
   pub stated : (connections : List Closed) → closed ≡ was ++ connections → IfSome item.digest (IsOneContent clock desk.disk (changed_all (beginning item User at) item) ended.list connections)
 
--- The item was brought by a desk whose list was that behind the job's own entries, up to one whose list is the run's last one, each between the run's start and its end. Where nothing stands in the
+-- The item was brought by a desk whose list was that behind the job's own entries, which alone it had recorded behind the opening, up to one whose list is the run's last one, each between the run's start and its end. Where nothing stands in the
 -- way it is complete after one attempt by the user, and that is said; or memory was wanting.
 pub record BringsWell {D O : Type 0} (tells : Type 0) (clock : D → Clock) (says : O → Says) (far : D → ℕ) (counts : D → DiskKind → ℕ) (net : Type 0) (start end : Clock) (was closed : List Closed) (before after : NetFault → ℕ) (log : Log) (own : History) (id : ItemId) (at : ℕ)
     (said : Said) : Type 0 where
   pub desk : View D O
   pub ended : View D O
   pub items : desk.items ≡ left_by most_items (reverse (opened_of log ++ own))
+  pub list : desk.list ≡ log.opening ++ own
   pub ended_items : ended.items ≡ left_by most_items (reverse (kept_of log))
   pub ended_list : ended.list ≡ log.opening ++ log.more
   pub began : Throughout start (clock desk.disk) (λ disk. Unit {0})
