@@ -164,8 +164,8 @@ module _ {D O : Type 0} (tells : Type 0) (clock : D → Clock) (says : O → Say
   ends_refused came before present trace cause (stops.Fault met) (ended.Stopped reason) refused ends = absurd ends.of
   ends_refused came before present trace cause (stops.Fault met) (ended.Fault fault) refused ends = fault_wider came present trace (λ c. c ≡ cause) fault ends
 
-  pub recorded_ends : (came : Bool) (present : View D O) (trace : Trace) (reason : Reason) → RecordedBy tells clock says far counts scene pass present trace reason → EndsBy came tells clock says far counts scene pass present trace (stops.Recorded reason) (ended.Stopped reason)
-  recorded_ends came present trace reason by = record { cause = by.cause; reason_is = by.reason_is; of = by.met; saves = by.saves; saved = tt; over = by.over }
+  pub recorded_ends : (came : Bool) (present : View D O) (trace : Trace) (reason : Reason) → RecordedBy came tells clock says far counts scene pass present trace reason → EndsBy came tells clock says far counts scene pass present trace (stops.Recorded reason) (ended.Stopped reason)
+  recorded_ends came present trace reason by = record { cause = by.cause; reason_is = by.reason_is; of = (by.met, by.asked); saves = by.saves; saved = tt; over = by.over }
 
   module _ (old new : View D O) (call : CallGoes tells clock says far counts IsPart old new) (trace : Trace) (live : LiveDesk tells clock says far counts scene pass old trace) (cause : Cause) where
     pub broke_over : BrokeAnswers old new pass cause (Ok tt) → DeskOver tells clock says far counts scene new trace (Broken cause)

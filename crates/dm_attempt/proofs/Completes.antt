@@ -347,14 +347,14 @@ module _ {D O : Type 0} (tells : Type 0) (clock : D → Clock) (says : O → Say
         let P : Item → Life → Type 0 = λ item life. MayFinish item life × Differs tells clock old.disk item life have wanted × Recorded old new (saving item life ++ entries.Broke item.id reasons.FileHashMismatch ∷ []) in
         let cause = causes.DigestDiffers have wanted in
         let over = over_closing (saving found.item found.life) (saves_of P found) (Broken cause) (entries.Broke found.item.id reasons.FileHashMismatch ∷ []) (broke_is P found at at_is cause) (broke_own P found at at_is cause) found.is.2 in
-        record { cause = cause; reason_is = refl; met = inl (differs_met P found at at_is found.is.0 have wanted found.is.1); saves = over.0; over = over.1 }
+        record { cause = cause; reason_is = refl; met = inl (differs_met P found at at_is found.is.0 have wanted found.is.1); asked = refl; saves = over.0; over = over.1 }
 
     pub finish_short : (have wanted : ℕ) → FinishAnswers tells clock counts old new pass at (Ok (finished.Short have wanted)) → FinishLeaves tells clock says far counts scene pass old new trace (Err (stops.Recorded reasons.FileTooShort))
     finish_short have wanted found =
         let P : Item → Life → Type 0 = λ item life. MayFinish item life × EndsEarly tells clock old.disk item life have wanted × Recorded old new (saving item life ++ entries.Broke item.id reasons.FileTooShort ∷ []) in
         let cause = causes.PartShort have wanted in
         let over = over_closing (saving found.item found.life) (saves_of P found) (Broken cause) (entries.Broke found.item.id reasons.FileTooShort ∷ []) (broke_is P found at at_is cause) (broke_own P found at at_is cause) found.is.2 in
-        record { cause = cause; reason_is = refl; met = inl (early_met P found at at_is found.is.0 have wanted found.is.1); saves = over.0; over = over.1 }
+        record { cause = cause; reason_is = refl; met = inl (early_met P found at at_is found.is.0 have wanted found.is.1); asked = tt; saves = over.0; over = over.1 }
 
     pub finish_ok : (f : Finished) → FinishAnswers tells clock counts old new pass at (Ok f) → FinishLeaves tells clock says far counts scene pass old new trace (finished_by f)
     finish_ok finished.Complete found = finish_done found

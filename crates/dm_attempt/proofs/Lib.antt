@@ -4,6 +4,7 @@ pub mod Items
 pub mod Saves
 pub mod Filling
 pub mod Answers
+pub mod Brought
 pub mod Steps
 pub mod Behind
 pub mod Rounds

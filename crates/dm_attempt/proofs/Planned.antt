@@ -15,10 +15,12 @@ use Rattle.dm_types.specs.declared.item.Phase.{Phase}
 use Rattle.dm_types.specs.declared.kinds.DiskKind.{DiskKind}
 use Rattle.dm_types.specs.declared.reason.Reason.TheVariants as reasons
 use Rattle.dm_types.specs.declared.slices.Slice.{Slice}
-use Rattle.dm_disk_model.specs.Disk.{History as Clock}
+use Rattle.dm_disk_model.specs.Disk.{History as Clock, bytes_at, now}
 use Rattle.dm_policy.specs.declared.cause.Cause.TheVariants as causes
 use Rattle.dm_name.specs.Forms.{AreAllTaken}
+use Rattle.dm_slice.specs.Cover.{IsCover}
 use Rattle.dm_slice.specs.Plan.{opened_by, parts_by}
+use Rattle.dm_slice.specs.Words.{HasByte}
 use Rattle.dm_slice.specs.declared.plan.Part.{Part}
 use Rattle.dm_edge.specs.Wire.{Closed}
 use Rattle.dm_item.specs.Fields.{no_bytes}
@@ -29,7 +31,7 @@ use Rattle.dm_reply.specs.declared.head.Head.{Head}
 use Rattle.dm_kept.specs.Files.{Says}
 use Rattle.dm_store.specs.Becomes.{Fell, Recorded}
 use Rattle.dm_store.specs.Keeps.{IsDesk}
-use Rattle.dm_store.specs.Lives.{life_in}
+use Rattle.dm_store.specs.Lives.{life_in, part_place}
 use Rattle.dm_store.specs.View.{View}
 use Rattle.dm_store.specs.declared.life.Life.{Life}
 use Rattle.dm_store.specs.declared.pass.Gone.TheVariants as gones
@@ -41,7 +43,7 @@ use Rattle.dm_answers.specs.Describe.{DescribeAnswers, DescribeTries, GivesName,
 use Rattle.dm_answers.specs.Faults.{IsOutside, desk_kind}
 use Rattle.dm_answers.specs.Frame.{FellWith, FileBroke, IsOne, Went}
 use Rattle.dm_answers.specs.Plan.{IsRound, MayNotPlan, PlanAnswers, last_round, planned_life, slice_pass}
-use Rattle.dm_answers.specs.Running.{RunsWith}
+use Rattle.dm_answers.specs.Running.{RunsWith, part_bytes}
 use Rattle.dm_answers.specs.declared.answer.Named.TheVariants as named
 use Rattle.dm_answers.specs.declared.answer.SlicePass.{SlicePass}
 use Rattle.dm_answers.specs.declared.answer.Told.{Told}
@@ -50,6 +52,7 @@ use Rattle.dm_answers.specs.declared.fault.DeskFault.TheVariants as faults
 use Rattle.dm_attempt.specs.declared.stop.Stop.{Stop}
 use Rattle.dm_attempt.specs.declared.stop.Stop.TheVariants as stops
 use Rattle.dm_attempt.specs.Asking.{Asking}
+use Rattle.dm_attempt.specs.Brought.{HasAt}
 use Rattle.dm_attempt.specs.Ends.{DescribeLeaves, IsNamedBy, PlanLeaves, empty_share, next_parts, next_round, plan_stop, tale_of}
 use Rattle.dm_attempt.specs.Goes.{CallGoes, DeskGoes}
 use Rattle.dm_attempt.specs.Live.{IsTraced, LiveDesk}
@@ -58,6 +61,7 @@ use Rattle.dm_attempt.specs.Shows.{DeskFell, DeskMet, NoCause}
 use Rattle.dm_attempt.specs.Stops.{FaultLeaves, Refused, stop_by}
 use Rattle.dm_attempt.specs.Trace.{AreAtEnds, AreNumbered, Broken, Trace, close_entries, opened, so_far, told_with, untold, wished}
 use Rattle.dm_attempt.proofs.Answers.{by_outside}
+use Rattle.dm_attempt.proofs.Brought.{none_there, opened_back}
 use Rattle.dm_attempt.proofs.Goes.{goes_then}
 use Rattle.dm_attempt.proofs.Items.{all_saves, item_then, life_then}
 use Rattle.dm_attempt.proofs.Rounds.{empty_filled, empty_parts, life_is, placed_by, small_total}
@@ -114,6 +118,9 @@ module _ {D O : Type 0} (tells : Type 0) (clock : D → Clock) (says : O → Say
           subst (λ (s : List Slice). AreNumbered 0 (next_parts scene trace) × AreAtEnds (next_parts scene trace) s) (opened_is (IsTraced scene trace) live.runs)
           (subst (λ (p : List Part). AreNumbered 0 p × AreAtEnds p (opened_by live.runs.item.total n old.limits.min_slice live.runs.life.cover)) (parts_is (IsTraced scene trace) live.runs) found)
 
+      covers : IsCover (cover_by scene trace)
+      covers = subst IsCover live.runs.is.cover_is (life_is tells clock old pass (IsTraced scene trace) desk live.goes.went.broken_is live.runs).cover
+
       pub round_opened : (passes : List SlicePass) → PlanAnswers old new pass n (Ok passes) → PlanLeaves tells clock says far counts scene pass new trace asking (Ok passes)
       round_opened passes answer =
           let P = IsRound old new pass n passes in
@@ -146,6 +153,10 @@ module _ {D O : Type 0} (tells : Type 0) (clock : D → Clock) (says : O → Say
                 rounds = (record { cover_is = refl; parts_are = empty_parts (next_parts scene trace) }, live.planned.rounds);
                 placed = subst (λ (p : List Part). AreNumbered 0 p × AreAtEnds p (opened_by total trace.count least (cover_by scene trace))) (sym (empty_parts (next_parts scene trace))) placed;
               };
+              brought = λ told content start rounds place has.
+              let back = subst (λ (cover : List Slice). HasByte cover place) (empty_filled (opened_by total trace.count least (cover_by scene trace)) (next_parts scene trace)) has in
+              subst (λ (disk : D). HasAt content (part_bytes clock disk (told_by scene trace.told)) place) (sym answer.is.still)
+              (live.brought told content start rounds.1 place (opened_back total trace.count least (cover_by scene trace) covers place back));
             },
           )
 
@@ -199,6 +210,7 @@ module _ {D O : Type 0} (tells : Type 0) (clock : D → Clock) (says : O → Say
         is = record { item_is = bare.runs.is.item_is; cover_is = bare.runs.is.cover_is; round_is = bare.runs.is.round_is; plan_is = bare.runs.is.plan_is };
       };
       planned = record { saves = tt; rounds = tt; placed = tt };
+      brought = bare.brought;
     }
 
     entry_is : (name : List ℕ) → described_by pass told name ≡ entries.Described scene.item.id told.key address.text told.total name told.modified
@@ -206,8 +218,8 @@ module _ {D O : Type 0} (tells : Type 0) (clock : D → Clock) (says : O → Say
         ap (λ (i : ItemId). entries.Described i told.key told.last_address told.total name told.modified) (own_id tells clock says far counts scene pass old mine live)
         ∙ ap (λ (t : List ℕ). entries.Described scene.item.id told.key t told.total name told.modified) at
 
-    named_live : (name : List ℕ) → Recorded old new (described_by pass told name ∷ []) → Lives new (told_with led lost count told.wish (tale_of head address told name))
-    named_live name recorded =
+    named_live : IsDesk tells clock old → (name : List ℕ) → Recorded old new (described_by pass told name ∷ []) → Lives new (told_with led lost count told.wish (tale_of head address told name))
+    named_live desk name recorded =
         let entry = entries.Described scene.item.id told.key address.text told.total name told.modified in
         let own : Recorded old new (entry ∷ []) = subst (λ (e : Entry). Recorded old new (e ∷ [])) (entry_is name) recorded in
         let same = own_id tells clock says far counts scene pass old mine live in
@@ -231,13 +243,14 @@ module _ {D O : Type 0} (tells : Type 0) (clock : D → Clock) (says : O → Say
             };
           };
           planned = record { saves = tt; rounds = tt; placed = tt };
+          brought = λ told_it content start rounds place has. absurd (none_there (begun_by scene).slices (bare_start led lost count none bare desk) place has);
         }
 
-    pub was_named : RecordedOne old new (Names tells clock old pass told named.Named) → WithNames tells clock old (IsNamedBy tells clock says far counts scene pass new led lost count head told address)
-    was_named one = record {
+    pub was_named : IsDesk tells clock old → RecordedOne old new (Names tells clock old pass told named.Named) → WithNames tells clock old (IsNamedBy tells clock says far counts scene pass new led lost count head told address)
+    was_named desk one = record {
       listed = one.is.listed;
       lists = one.is.lists;
-      is = record { name = one.is.is.name; free = one.is.is.free; live = named_live one.is.is.name (subst (λ (e : Entry). Recorded old new (e ∷ [])) one.is.is.is one.recorded) };
+      is = record { name = one.is.is.name; free = one.is.is.free; live = named_live desk one.is.is.name (subst (λ (e : Entry). Recorded old new (e ∷ [])) one.is.is.is one.recorded) };
     }
 
     none_met : WithNames tells clock old (AreAllTaken told.wish) → DeskMet tells clock says far counts scene pass mine causes.NamesTaken
@@ -250,6 +263,7 @@ module _ {D O : Type 0} (tells : Type 0) (clock : D → Clock) (says : O → Say
         cause = causes.NamesTaken;
         reason_is = refl;
         met = inl (none_met (record { listed = one.is.listed; lists = one.is.lists; is = one.is.is.all }));
+        asked = tt;
         saves = [];
         over = over_by tells clock says far counts scene pass old new call mine causes.NamesTaken live (subst (λ (e : Entry). Recorded old new (e ∷ [])) one.is.is.is one.recorded);
       },
@@ -287,13 +301,16 @@ module _ {D O : Type 0} (tells : Type 0) (clock : D → Clock) (says : O → Say
       limits = refl;
     })
 
-    still_live : new ≡ record old { disk = new.disk } → Lives new mine
-    still_live same = record {
+    still_live : new ≡ record old { disk = new.disk } → clock new.disk ≡ clock old.disk → Lives new mine
+    still_live same still = record {
       goes = subst (λ (h : History). DeskGoes tells clock says far counts IsPart scene.start new h [] false) (append-nil _) (goes_then tells clock says far counts IsPart scene.start old new _ [] [] false live.goes (still_went same) call);
       pass_is = live.pass_is;
       runs = subst (λ (view : View D O). RunsWith view pass.id pass.attempt (IsTraced scene mine)) (sym same)
           (record { item = live.runs.item; there = live.runs.there; runs = live.runs.runs; attempt_is = live.runs.attempt_is; life = live.runs.life; lives = live.runs.lives; is = live.runs.is });
       planned = live.planned;
+      brought = λ told_it content start rounds place has.
+      let item = begun_by scene in
+      subst (λ (t : Clock). HasAt content (bytes_at (now t) (part_place item.id.0 item.epoch.0)) place) (sym still) (live.brought told_it content start rounds place has);
     }
 
     pub describe_stops : (fault : DeskFault) → DescribeAnswers tells clock counts old new pass told (Err fault) → Raises fault → Refused tells clock says far counts scene pass new mine (stop_by fault)
@@ -301,7 +318,7 @@ module _ {D O : Type 0} (tells : Type 0) (clock : D → Clock) (says : O → Say
         by_outside (λ (f : DeskFault). DescribeAnswers tells clock counts old new pass told (Err f) → Raises f → Refused tells clock says far counts scene pass new mine (stop_by f))
         (λ kind found up. file_leaves tells clock says far counts scene pass old new call mine kind live found.1 up)
         (λ kind found up. journal_leaves tells clock says far counts scene pass old new call mine kind live (fell_naming found.1) up)
-        (λ found up. still_live found.same)
+        (λ found up. still_live found.same found.still)
         fault (hard_describe tells clock counts old new pass told fault live.goes.went.broken_is
         (weaker old pass.id pass.attempt (IsTraced scene mine) IsSilent (λ item life traced. ap (λ (i : Item). i.key) traced.item_is ∙ none) live.runs) answer) answer rose
 

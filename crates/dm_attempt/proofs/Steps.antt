@@ -1,17 +1,18 @@
 -- What each call of a desk makes of an attempt that runs.
 use Rattle.std.proofs.Common.{◌≡◌, ◌≢◌, ◌⊎◌, inl, inr, ℕ, ◌+◌, ◌<◌, ◌≤◌, ◌==◌, cond, suc, Bool, true, false, List, [], ◌∷◌, ◌++◌, length, map, Option, Some, None, Result, Ok, Err, IsTrue, refl, sym, ◌∙◌, ap, subst, arith, append_assoc}
-use Rattle.std.specs.Prelude.{IfErr, IfSome, slice_get}
+use Rattle.std.specs.Prelude.{IfErr, IfSome, IsSome, OnOk, slice_get}
 use Rattle.std.specs.Option.{option_map}
 use Rattle.std.specs.List.{AllByRecursion}
 use Rattle.std.proofs.lemmas.Bool.Decides.{eqb_tells}
 use Rattle.std.proofs.lemmas.List.{append-nil, map-append}
 use Rattle.std.proofs.lemmas.Option.{none-some, same_Some, slice_get-map, slice_get_within}
 use Rattle.dm_types.specs.Faults.{HasCause, NoneFell, Rose}
-use Rattle.dm_types.specs.Name.{IsPart}
+use Rattle.dm_types.specs.Name.{IsPart, part_name}
 use Rattle.dm_types.specs.declared.entry.Entry.{Entry}
 use Rattle.dm_types.specs.declared.entry.Entry.TheVariants as entries
 use Rattle.dm_types.specs.declared.item.Item.{Item}
 use Rattle.dm_types.specs.declared.item.ItemId.{ItemId}
+use Rattle.dm_types.specs.declared.item.Key.{Key}
 use Rattle.dm_types.specs.declared.kinds.DiskKind.{DiskKind}
 use Rattle.dm_types.specs.declared.slices.Slice.{Slice}
 use Rattle.dm_disk_model.specs.Disk.{History as Clock}
@@ -25,6 +26,7 @@ use Rattle.dm_item.specs.Lawful.{History}
 use Rattle.dm_item.specs.Listing.{Listing, changed_at, item_in}
 use Rattle.dm_kept.specs.Files.{Says}
 use Rattle.dm_store.specs.Becomes.{Becomes, Fell, Recorded}
+use Rattle.dm_store.specs.Keeps.{IsDesk}
 use Rattle.dm_store.specs.Lives.{changed_life, life_in}
 use Rattle.dm_store.specs.View.{View}
 use Rattle.dm_store.specs.declared.life.Life.{Life}
@@ -36,15 +38,17 @@ use Rattle.dm_answers.specs.Begin.{beginning}
 use Rattle.dm_answers.specs.Broke.{IsUnderWay}
 use Rattle.dm_answers.specs.Checkpoint.{CheckpointAnswers, FallsSaving, IsSaved}
 use Rattle.dm_answers.specs.Faults.{IsOutside, desk_kind}
-use Rattle.dm_answers.specs.Frame.{FellWith, FileBroke, LifeOnly}
+use Rattle.dm_answers.specs.Frame.{FellWith, FileBroke, KeepsReads, LifeOnly}
 use Rattle.dm_answers.specs.Land.{Fits, IsDue, LandAnswers, SaysPiece, grown_life}
 use Rattle.dm_answers.specs.Plan.{slice_pass}
-use Rattle.dm_answers.specs.Running.{RunsWith, saving}
+use Rattle.dm_answers.specs.Reads.{HasPiece, PartReads}
+use Rattle.dm_answers.specs.Running.{RunsWith, part_bytes, saving}
 use Rattle.dm_answers.specs.declared.answer.SlicePass.{SlicePass}
 use Rattle.dm_answers.specs.declared.fault.DeskFault.{DeskFault}
 use Rattle.dm_answers.specs.declared.fault.DeskFault.TheVariants as faults
 use Rattle.dm_attempt.specs.declared.stop.Stop.{Stop}
 use Rattle.dm_attempt.specs.declared.stop.Stop.TheVariants as stops
+use Rattle.dm_attempt.specs.Brought.{HasAt, HasCover}
 use Rattle.dm_attempt.specs.Goes.{CallGoes, DeskGoes}
 use Rattle.dm_attempt.specs.Live.{ArePlaced, DeskOver, IsPlanned, IsSpared, IsTraced, LiveDesk, NothingUnsaved, all_entries}
 use Rattle.dm_attempt.specs.Scene.{Scene, begun_by, changed_all, cover_by, item_by, told_by}
@@ -53,9 +57,11 @@ use Rattle.dm_attempt.specs.Shows.{DeskFell, NoCause, ShowsClose}
 use Rattle.dm_attempt.specs.Stops.{FaultLeaves, LandLeaves, Refused, SaveLeaves, due_by, stop_by}
 use Rattle.dm_attempt.specs.Trace.{AreAtEnds, AreNumbered, Broken, Close, Round, Trace, close_entries, entries_behind, opened, so_far, told_entries, with_piece, with_saves}
 use Rattle.dm_attempt.proofs.Answers.{LandFault, by_outside, due, land_fault, outside}
+use Rattle.dm_attempt.proofs.Brought.{has_landed, part_there, piece_of, shares_front}
 use Rattle.dm_attempt.proofs.Filling.{filled_grown, filled_next}
 use Rattle.dm_attempt.proofs.Goes.{call_more, goes_more, goes_then}
 use Rattle.dm_attempt.proofs.Items.{all_id, all_saves, all_then, bare, found_id, item_then, life_then}
+use Rattle.dm_attempt.proofs.Rounds.{life_is}
 use Rattle.dm_attempt.proofs.Saves.{planned_piece, save_now, saves_piece, saves_push}
 use Rattle.dm_attempt.proofs.Sharing.{added_keeps}
 
@@ -223,22 +229,25 @@ module _ {D O : Type 0} (tells : Type 0) (clock : D → Clock) (says : O → Say
           };
         }
 
-    saved_on : (trace : Trace) (live : Live old trace) → Recorded old new (entries.Progress id (kept_now old trace live) ∷ []) → Live new (longer old trace live)
-    saved_on trace live recorded = record {
+    saved_on : (trace : Trace) (live : Live old trace) → Recorded old new (entries.Progress id (kept_now old trace live) ∷ []) → (tells → KeepsReads clock old.disk new.disk) → Live new (longer old trace live)
+    saved_on trace live recorded reads = record {
       goes = subst (λ (h : History). DeskGoes tells clock says far counts IsPart scene.start new h [] false)
           (append_assoc head (so_far id trace) (entries.Progress id (kept_now old trace live) ∷ []) ∙ ap (λ (h : History). head ++ h) (sym (so_saved id trace (kept_now old trace live))))
           (goes_on trace (entries.Progress id (kept_now old trace live) ∷ []) live recorded);
       pass_is = live.pass_is;
       runs = saved_runs trace live recorded;
       planned = kept_planned old trace live;
+      brought = λ told content start rounds place has.
+      let item = told_by scene trace.told in
+      subst (λ (file : Option (List ℕ)). HasAt content file place) (sym (reads told (part_name item.id.0 item.epoch.0))) (live.brought told content start rounds place has);
     }
 
     -- what was landed was saved
-    pub live_saved : (trace : Trace) → Live old trace → RunsWith old pass.id pass.attempt (IsSaved old new) → (saves : List (List Slice)) × Live new (with_saves trace saves)
-    live_saved trace live found =
+    pub live_saved : (trace : Trace) → Live old trace → RunsWith old pass.id pass.attempt (IsSaved old new) → (tells → KeepsReads clock old.disk new.disk) → (saves : List (List Slice)) × Live new (with_saves trace saves)
+    live_saved trace live found reads =
         elim (eqb_tells found.life.unsaved 0) [
           | inl none ↦ (trace.saves, subst (λ (desk : View D O). Live desk trace) (sym (found.is.still none.1)) live)
-          | inr some ↦ (trace.saves ++ kept_now old trace live ∷ [], saved_on trace live (subst (Recorded old new) (saved_entry old trace live (IsSaved old new) found some.0) found.is.saved))
+          | inr some ↦ (trace.saves ++ kept_now old trace live ∷ [], saved_on trace live (subst (Recorded old new) (saved_entry old trace live (IsSaved old new) found some.0) found.is.saved) reads)
         ]
 
     -- the journal failed while something was saved
@@ -269,16 +278,24 @@ module _ {D O : Type 0} (tells : Type 0) (clock : D → Clock) (says : O → Say
         (λ kind answer rose. journal_leaves trace kind live (fell_saving trace live answer) rose)
         (λ answer rose. subst (λ (desk : View D O). Live desk trace) (sym answer.same) live)
 
-    pub save_leaves : (trace : Trace) (result : Result (Unit {0}) DeskFault) → Live old trace → CheckpointAnswers counts old new pass result → IfErr result Rises
+    pub save_leaves : (trace : Trace) (result : Result (Unit {0}) DeskFault) → Live old trace → CheckpointAnswers counts old new pass result → IfErr result Rises → (tells → KeepsReads clock old.disk new.disk)
         → SaveLeaves tells clock says far counts scene pass new trace (stopped result)
-    save_leaves trace (Ok done) live answer rose = live_saved trace live answer
-    save_leaves trace (Err fault) live answer rose =
+    save_leaves trace (Ok done) live answer rose reads = live_saved trace live answer reads
+    save_leaves trace (Err fault) live answer rose reads =
         save_stops trace live fault (hard_checkpoint counts old new pass fault live.goes.went.broken_is (weaker old pass.id pass.attempt (IsTraced scene trace) IsUnderWay (λ item life is. tt) live.runs) answer) answer rose
 
+    -- the part of the item is that of the item as it was told
+    part_told : (trace : Trace) (live : Live old trace) (disk : D) → part_bytes clock disk live.runs.item ≡ part_bytes clock disk (told_by scene trace.told)
+    part_told trace live disk = ap (λ (i : Item). part_bytes clock disk i) live.runs.is.item_is ∙ ap (λ (i : Item). part_bytes clock disk i) (all_saves id trace.saves (told_by scene trace.told))
+
+    told_of : (key found : Option Key) → key ≡ found → (key ≡ None → ⊥) → IsSome key
+    told_of key None is some = absurd (some is)
+    told_of key (Some found) is some = subst IsSome (sym is) refl
+
     -- a piece was landed
-    pub live_landed : (older : Trace) (round : Round) (part : Part) (at : ℕ) (piece : List ℕ) → Live old (opened older round) → IsNext round.shares part at piece → LifeOnly old new pass.id.0 (grown_life part.index (length piece))
-        → Live new (opened older (with_piece round part.index piece))
-    live_landed older round part at piece live next only =
+    pub live_landed : IsDesk tells clock old → (older : Trace) (round : Round) (part : Part) (at : ℕ) (piece : List ℕ) → Live old (opened older round) → IsNext round.shares part at piece → LifeOnly old new pass.id.0 (grown_life part.index (length piece))
+        → (tells → PartReads clock old new pass.id (HasPiece at piece)) → Live new (opened older (with_piece round part.index piece))
+    live_landed was older round part at piece live next only reads =
         let trace = opened older round in
         let after = opened older (with_piece round part.index piece) in
         let f = grown_life part.index (length piece) in
@@ -309,6 +326,13 @@ module _ {D O : Type 0} (tells : Type 0) (clock : D → Clock) (says : O → Say
             rounds = planned_piece start total older.count least round older.rounds part.index piece live.planned.rounds;
             placed = subst (λ (l : List Part). AreNumbered 0 l × AreAtEnds l (opened_by total older.count least round.cover)) (sym (added_keeps round.shares part.index piece)) live.planned.placed;
           };
+          brought = λ told content before rounds.
+          let is = life_is tells clock old pass (IsTraced scene trace) was live.goes.went.broken_is live.runs in
+          let there = part_there tells clock old pass.id pass.attempt (IsTraced scene trace) was live.goes.went.broken_is live.runs (told_of live.runs.item.key live.runs.item.key refl (λ none. let one = live.runs.is.round_is in let two = (is.untold none).1 in omega (arith, one, two))) told in
+          let at_is : at ≡ next.share.part.first + length next.share.bytes = let first = ap (λ (p : Part). p.first) next.part_is in let place = next.at_is in omega (arith, first, place) in
+          let had = subst (HasCover content (cover_by scene trace)) (sym (part_told trace live old.disk) ∙ there.1) (live.brought told content before (shares_front content round.shares part.index piece rounds.0, rounds.1)) in
+          subst (HasCover content (cover_by scene after)) (sym (reads told live.runs.item live.runs.there there.0 there.1) ∙ part_told trace live new.disk)
+          (has_landed content there.0 at piece (piece_of content round.shares part.index piece next.share at next.is at_is rounds.0) (opened_by total older.count least round.cover) round.shares part.index next.share live.planned.placed.1 next.is at_is had);
         }
 
   -- the next piece of a part has its place
@@ -356,14 +380,14 @@ module _ {D O : Type 0} (tells : Type 0) (clock : D → Clock) (says : O → Say
         (λ answer rose. absurd answer)
 
     -- behind a save
-    pub piece_leaves : (result : Result (Unit {0}) DeskFault) → NothingUnsaved old pass → 1 ≤ old.limits.checkpoint → LandAnswers counts old new slice at piece result → IfErr result Raised
+    pub piece_leaves : (result : Result (Unit {0}) DeskFault) → NothingUnsaved old pass → IsDesk tells clock old → LandAnswers counts old new slice at piece result → IfErr result Raised → (tells → OnOk result (PartReads clock old new pass.id (HasPiece at piece)))
         → LandLeaves tells clock says far counts scene pass new older round part.index piece (stopped result)
-    piece_leaves (Ok done) none some answer rose = (older.saves, live_landed old new call older round part at piece live next answer.1)
-    piece_leaves (Err fault) none some answer rose =
+    piece_leaves (Ok done) none was answer rose reads = (older.saves, live_landed old new call was older round part at piece live next answer.1 reads)
+    piece_leaves (Err fault) none was answer rose reads =
         elim (land_fault counts old new slice at piece live.goes.went.broken_is (has_place old older round part at piece turn live next turn_is) fault answer) [
           | outside is ↦ piece_stops fault is answer rose
           | due bytes is runs same ↦ absurd (both old pass.id pass.attempt (λ item life. life.unsaved ≡ 0) (IsDue slice at (length piece) old.limits.checkpoint bytes) ⊥ none runs
-              (λ item life empty is_due. let low = is_due.due in omega (arith, low, empty, some)))
+              (λ item life empty is_due. let low = is_due.due in let some = was.limits_are.checkpoint.0 in omega (arith, low, empty, some)))
         ]
 
     -- unless a save is due

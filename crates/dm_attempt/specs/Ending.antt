@@ -1,5 +1,5 @@
 -- How an attempt ends at the desk.
-use Rattle.std.specs.Prelude.{◌≡◌, ◌⊎◌, ℕ, Bool, List, Option, Some, None, Result}
+use Rattle.std.specs.Prelude.{◌≡◌, ◌⊎◌, ℕ, Bool, List, Option, Some, None, Result, IsTrue}
 use Rattle.dm_types.specs.Faults.{Rose}
 use Rattle.dm_types.specs.declared.item.Item.{Item}
 use Rattle.dm_types.specs.declared.kinds.DiskKind.{DiskKind}
@@ -48,11 +48,17 @@ IsOfDesk (stops.Recorded reason) = Unit {0}
 abbrev pub IsDeskCause : {D O : Type 0} → Type 0 → (D → Clock) → (O → Says) → (D → ℕ) → (D → DiskKind → ℕ) → Scene D O → Pass → Trace → Cause → Type 0
 IsDeskCause tells clock says far counts scene pass trace cause = DeskMet tells clock says far counts scene pass trace cause ⊎ BeginMet tells clock scene trace cause
 
--- the desk has ended the attempt by a cause with this reason
-pub record RecordedBy {D O : Type 0} (tells : Type 0) (clock : D → Clock) (says : O → Says) (far : D → ℕ) (counts : D → DiskKind → ℕ) (scene : Scene D O) (pass : Pass) (present : View D O) (trace : Trace) (reason : Reason) : Type 0 where
+-- that all came and has another sum shows only where the desk was asked to finish
+abbrev pub ShownBy : Bool → Cause → Type 0
+ShownBy came (causes.DigestDiffers have wanted) = IsTrue came
+ShownBy came _ = Unit {0}
+
+-- the desk has ended the attempt by a cause with this reason, perhaps while it finished what came
+pub record RecordedBy {D O : Type 0} (came : Bool) (tells : Type 0) (clock : D → Clock) (says : O → Says) (far : D → ℕ) (counts : D → DiskKind → ℕ) (scene : Scene D O) (pass : Pass) (present : View D O) (trace : Trace) (reason : Reason) : Type 0 where
   pub cause : Cause
   pub reason_is : reason ≡ reason_of_cause cause
   pub met : IsDeskCause tells clock says far counts scene pass trace cause
+  pub asked : ShownBy came cause
   pub saves : List (List Slice)
   pub over : DeskOver tells clock says far counts scene present (with_saves trace saves) (Broken cause)
 
@@ -61,14 +67,14 @@ abbrev pub StopHolds : {D O : Type 0} → Bool → Type 0 → (D → Clock) → 
 StopHolds came tells clock says far counts scene pass present trace (stops.Broke cause) = LiveDesk tells clock says far counts scene pass present trace
 StopHolds came tells clock says far counts scene pass present trace stops.NoMemory = LiveDesk tells clock says far counts scene pass present trace
 StopHolds came tells clock says far counts scene pass present trace (stops.Fault fault) = FaultLeaves came tells clock says far counts scene present trace fault
-StopHolds came tells clock says far counts scene pass present trace (stops.Recorded reason) = RecordedBy tells clock says far counts scene pass present trace reason
+StopHolds came tells clock says far counts scene pass present trace (stops.Recorded reason) = RecordedBy came tells clock says far counts scene pass present trace reason
 
 -- a cause that is recorded is the one by which the attempt stopped, or one that the desk met
-abbrev pub IsCauseOf : {D O : Type 0} → Type 0 → (D → Clock) → (O → Says) → (D → ℕ) → (D → DiskKind → ℕ) → Scene D O → Pass → Trace → Stop → Cause → Type 0
-IsCauseOf tells clock says far counts scene pass trace (stops.Broke met) cause = cause ≡ met
-IsCauseOf tells clock says far counts scene pass trace stops.NoMemory cause = ⊥
-IsCauseOf tells clock says far counts scene pass trace (stops.Fault fault) cause = ⊥
-IsCauseOf tells clock says far counts scene pass trace (stops.Recorded reason) cause = IsDeskCause tells clock says far counts scene pass trace cause
+abbrev pub IsCauseOf : {D O : Type 0} → Bool → Type 0 → (D → Clock) → (O → Says) → (D → ℕ) → (D → DiskKind → ℕ) → Scene D O → Pass → Trace → Stop → Cause → Type 0
+IsCauseOf came tells clock says far counts scene pass trace (stops.Broke met) cause = cause ≡ met
+IsCauseOf came tells clock says far counts scene pass trace stops.NoMemory cause = ⊥
+IsCauseOf came tells clock says far counts scene pass trace (stops.Fault fault) cause = ⊥
+IsCauseOf came tells clock says far counts scene pass trace (stops.Recorded reason) cause = IsDeskCause tells clock says far counts scene pass trace cause × ShownBy came cause
 
 -- where the driver records a cause, all that was landed is saved
 abbrev pub IsSavedFor : {D O : Type 0} → Scene D O → Trace → List (List Slice) → Stop → Type 0
@@ -77,11 +83,11 @@ IsSavedFor scene trace saves stops.NoMemory = Unit {0}
 IsSavedFor scene trace saves (stops.Fault fault) = Unit {0}
 IsSavedFor scene trace saves (stops.Recorded reason) = Unit {0}
 
--- The item was interrupted with this reason.
-pub record StoppedBy {D O : Type 0} (tells : Type 0) (clock : D → Clock) (says : O → Says) (far : D → ℕ) (counts : D → DiskKind → ℕ) (scene : Scene D O) (pass : Pass) (present : View D O) (trace : Trace) (stop : Stop) (reason : Reason) : Type 0 where
+-- The item was interrupted with this reason, perhaps while what came was finished.
+pub record StoppedBy {D O : Type 0} (came : Bool) (tells : Type 0) (clock : D → Clock) (says : O → Says) (far : D → ℕ) (counts : D → DiskKind → ℕ) (scene : Scene D O) (pass : Pass) (present : View D O) (trace : Trace) (stop : Stop) (reason : Reason) : Type 0 where
   pub cause : Cause
   pub reason_is : reason ≡ reason_of_cause cause
-  pub of : IsCauseOf tells clock says far counts scene pass trace stop cause
+  pub of : IsCauseOf came tells clock says far counts scene pass trace stop cause
   pub saves : List (List Slice)
   pub saved : IsSavedFor scene trace saves stop
   pub over : DeskOver tells clock says far counts scene present (with_saves trace saves) (Broken cause)
@@ -96,6 +102,6 @@ FaultEnds came tells clock says far counts scene present trace P fault = FaultLe
 -- Each answer, by what ended the attempt.
 abbrev pub EndsBy : {D O : Type 0} → Bool → Type 0 → (D → Clock) → (O → Says) → (D → ℕ) → (D → DiskKind → ℕ) → Scene D O → Pass → View D O → Trace → Stop → Ended → Type 0
 EndsBy came tells clock says far counts scene pass present trace stop ended.Complete = ⊥
-EndsBy came tells clock says far counts scene pass present trace stop (ended.Stopped reason) = StoppedBy tells clock says far counts scene pass present trace stop reason
+EndsBy came tells clock says far counts scene pass present trace stop (ended.Stopped reason) = StoppedBy came tells clock says far counts scene pass present trace stop reason
 EndsBy came tells clock says far counts scene pass present trace stop (ended.Fault fault) =
-    FaultEnds came tells clock says far counts scene present trace (λ cause. IsCauseOf tells clock says far counts scene pass trace stop cause) fault
+    FaultEnds came tells clock says far counts scene present trace (λ cause. IsCauseOf came tells clock says far counts scene pass trace stop cause) fault

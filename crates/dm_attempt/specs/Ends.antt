@@ -71,7 +71,7 @@ pub record IsNamedBy {D O : Type 0} (tells : Type 0) (clock : D → Clock) (says
 abbrev pub DescribeLeaves : {D O : Type 0} → Type 0 → (D → Clock) → (O → Says) → (D → ℕ) → (D → DiskKind → ℕ) → Scene D O → Pass → View D O → View D O → List Closed → List Closed → ℕ → Head → Told → Address → Result (Unit {0}) Stop → Type 0
 DescribeLeaves tells clock says far counts scene pass old new led lost count head told address (Ok done) = WithNames tells clock old (IsNamedBy tells clock says far counts scene pass new led lost count head told address)
 DescribeLeaves tells clock says far counts scene pass old new led lost count head told address (Err (stops.Recorded reason)) =
-    (reason ≡ reason_of_cause causes.NamesTaken) × RecordedBy tells clock says far counts scene pass new (wished led lost count told.wish) reason
+    (reason ≡ reason_of_cause causes.NamesTaken) × RecordedBy false tells clock says far counts scene pass new (wished led lost count told.wish) reason
 DescribeLeaves tells clock says far counts scene pass old new led lost count head told address (Err stops.NoMemory) = LiveDesk tells clock says far counts scene pass new (wished led lost count told.wish)
 DescribeLeaves tells clock says far counts scene pass old new led lost count head told address (Err (stops.Fault fault)) = FaultLeaves false tells clock says far counts scene new (wished led lost count told.wish) fault
 DescribeLeaves tells clock says far counts scene pass old new led lost count head told address (Err (stops.Broke cause)) = ⊥

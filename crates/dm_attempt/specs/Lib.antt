@@ -2,6 +2,7 @@ pub mod Shares
 pub mod Heads
 pub mod Asking
 pub mod Trace
+pub mod Brought
 pub mod Replied
 pub mod Scene
 pub mod Goes

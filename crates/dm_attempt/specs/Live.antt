@@ -13,7 +13,8 @@ use Rattle.dm_store.specs.declared.life.Life.{Life}
 use Rattle.dm_store.specs.declared.pass.Pass.{Pass}
 use Rattle.dm_store.specs.View.{View}
 use Rattle.dm_answers.specs.Begin.{beginning, pass_of}
-use Rattle.dm_answers.specs.Running.{RunsWith}
+use Rattle.dm_answers.specs.Running.{RunsWith, part_bytes}
+use Rattle.dm_attempt.specs.Brought.{HasCover, RoundsOf}
 use Rattle.dm_attempt.specs.Goes.{DeskGoes}
 use Rattle.dm_attempt.specs.Scene.{Scene, begun_by, changed_all, cover_by, item_by, told_by}
 use Rattle.dm_attempt.specs.Trace.{AreAtEnds, AreNumbered, ArePlanned, Close, IsSave, Round, Trace, entries_behind, plan_by, so_far}
@@ -42,6 +43,9 @@ pub record LiveDesk {D O : Type 0} (tells : Type 0) (clock : D → Clock) (says 
   pub pass_is : pass ≡ pass_of scene.item
   pub runs : RunsWith present pass.id pass.attempt (IsTraced scene trace)
   pub planned : IsPlanned scene trace
+  -- where what was saved and all that was landed is of one content, the part has it at each place of the live cover
+  pub brought : tells → (content : List ℕ) → HasCover content (begun_by scene).slices (part_bytes clock scene.start.disk (begun_by scene)) → RoundsOf content trace.rounds
+      → HasCover content (cover_by scene trace) (part_bytes clock present.disk (told_by scene trace.told))
 
 -- the name is the item's, which is being finished or complete
 abbrev pub IsGivenBy : Item → List ℕ → Type 0

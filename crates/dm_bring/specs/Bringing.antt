@@ -37,13 +37,13 @@ pub record BringGoes {D O : Type 0} (tells : Type 0) (clock : D → Clock) (coun
   pub beside : Waits id old.items.items → tells → (history : History) → IsOf history old.items → Besides (MayName (clock old.disk) history (fetched ++ new.failed) new.broken) (clock old.disk) (clock new.disk)
 
 -- The item was brought, and so the course goes on: where memory was wanting, also for an attempt that the item would have made by itself, it ends by that. Where the item waited and nothing stood in
--- the way, it is complete, or memory was wanting, or the content, of which no reply told how long it is, has another sum than the stated one; and that is said of it.
+-- the way, it is complete, or memory was wanting, and that is said of it.
 pub record WasBrought {D O : Type 0} (tells : Type 0) (clock : D → Clock) (counts : D → DiskKind → ℕ) (far : D → ℕ) (says : O → Says) (net : Type 0) (old new : View D O) (was now : List Closed) (before after : NetFault → ℕ) (id : ItemId) (slices at : ℕ) (course : Course) : Type 0 where
   pub end : Ended
   pub course_is : course ≡ course_behind end (Brings id slices)
   pub brought : Brought tells clock says far counts net old new was now before after id slices at end
   pub goes : BringGoes tells clock counts far says old new id brought.fetched
-  pub ends : Waits id old.items.items → IsSmooth tells clock says counts net old new was now before after id User at → EndsWell tells clock says far counts old new was before id at (said_by new.items.items (Brings id slices))
+  pub ends : Waits id old.items.items → IsSmooth tells clock says counts net old new was now before after id User at → EndsWell old new id (said_by new.items.items (Brings id slices))
 
 -- nothing was done
 pub record NoneBrought {D O : Type 0} (old new : View D O) (was now : List Closed) (before after : NetFault → ℕ) : Type 0 where

@@ -1,5 +1,5 @@
 -- A command that brings an item says that it is complete, where nothing stands in the way.
-use Rattle.std.proofs.Common.{◌≡◌, ◌⊎◌, inl, inr, ℕ, List, Some, ◌∙◌, ap}
+use Rattle.std.proofs.Common.{◌≡◌, ◌⊎◌, inl, inr, ℕ, List, Some, ◌∙◌, ap, subst}
 use Rattle.dm_types.specs.declared.item.Item.{Item}
 use Rattle.dm_types.specs.declared.item.ItemId.{ItemId}
 use Rattle.dm_types.specs.declared.item.Phase.{Phase}
@@ -14,6 +14,7 @@ use Rattle.dm_item.specs.Listing.{item_in}
 use Rattle.dm_kept.specs.Files.{Says}
 use Rattle.dm_store.specs.View.{View}
 use Rattle.dm_attempt.specs.declared.ended.Ended.{Ended}
+use Rattle.dm_fetch.specs.Attempts.{Attempts}
 use Rattle.dm_fetch.specs.Completes.{CompletesAtOnce, IsLeftIn}
 use Rattle.dm_fetch.proofs.Completed.{complete_left, wanting_left}
 use Rattle.dm_report.specs.Said.{Said, only}
@@ -22,7 +23,7 @@ use Rattle.dm_report.specs.declared.verdict.Verdict.TheVariants.{NoMemory}
 use Rattle.dm_does.specs.declared.course.Course.TheVariants.{Brings}
 use Rattle.dm_does.specs.Laws.{Waits}
 use Rattle.dm_does.specs.Saying.{said_by, said_in, said_of}
-use Rattle.dm_brings.specs.Completed.{EndsWell, completed, differs, wanting}
+use Rattle.dm_brings.specs.Completed.{EndsWell, completed, wanting}
 
 module _ {D O : Type 0} (tells : Type 0) (clock : D → Clock) (says : O → Says) (far : D → ℕ) (counts : D → DiskKind → ℕ) (net : Type 0) (old new : View D O) (was now : List Closed) (before after : NetFault → ℕ) (id : ItemId) (slices at : ℕ) (said : Said)
     (said_is : said ≡ said_by new.items.items (Brings id slices)) where
@@ -39,9 +40,9 @@ module _ {D O : Type 0} (tells : Type 0) (clock : D → Clock) (says : O → Say
   wanting_said waits (inr left) = said_phase left.item (phases.Interrupted reasons.NoMemory) left.there left.phase_is
 
   -- The item waited, and this is how all that it made ended.
-  pub ends_well : (end : Ended) → Waits id old.items.items → CompletesAtOnce tells clock says far counts net old new was now before after id User slices at end → EndsWell tells clock says far counts old new was before id at said
-  ends_well end waits (inl done) =
-      let left = complete_left tells clock says far counts net old new was now before after id User slices at done.1 in
+  pub ends_well : (end : Ended) → Waits id old.items.items → CompletesAtOnce tells clock says far counts net old new was now before after id User slices at end → EndsWell old new id said
+  ends_well end waits (inl done, did) =
+      let left = complete_left tells clock says far counts net old new was now before after id User slices at (subst (λ (e : Ended). Attempts tells clock says far counts net old new was now before after id User slices at e) done did) in
       completed left (ap (λ (s : Said). s.verdict) (said_phase left.item phases.Complete left.there left.phase_is))
-  ends_well end waits (inr (inl none)) = wanting (wanting_said waits (wanting_left tells clock says far counts net old new was now before after id User slices at none.1))
-  ends_well end waits (inr (inr sum)) = differs sum
+  ends_well end waits (inr none, did) =
+      wanting (wanting_said waits (wanting_left tells clock says far counts net old new was now before after id User slices at (subst (λ (e : Ended). Attempts tells clock says far counts net old new was now before after id User slices at e) none did)))

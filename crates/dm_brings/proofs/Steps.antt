@@ -154,9 +154,9 @@ module _ {D O : Type 0} (tells : Type 0) (clock : D → Clock) (says : O → Say
     }
 
     module _ (shown : (trace : Trace) (cause : Cause) → MetAtNet net before after scene trace cause → IsCounted from to (reason_of_cause cause)) where
-      met_counted : (trace : Trace) (saves : List (List Slice)) (cause : Cause) → IsMetBy tells clock says far counts net scene (pass_of item) before after trace saves cause → IsCounted from to (reason_of_cause cause)
-      met_counted trace saves cause (at_desk met) = desk_counted from to tells clock says far counts scene (pass_of item) trace cause met
-      met_counted trace saves cause (at_net met saved) = shown trace cause met
+      met_counted : (came : Bool) (trace : Trace) (saves : List (List Slice)) (cause : Cause) → IsMetBy came tells clock says far counts net scene (pass_of item) before after trace saves cause → IsCounted from to (reason_of_cause cause)
+      met_counted came trace saves cause (at_desk met asked) = desk_counted from to tells clock says far counts scene (pass_of item) trace cause met
+      met_counted came trace saves cause (at_net met saved) = shown trace cause met
 
       abbrev Known : Trace → Cause → Type 0
       Known trace cause = IsDeskCause tells clock says far counts scene (pass_of item) trace cause ⊎ MetAtNet net before after scene trace cause
@@ -167,7 +167,7 @@ module _ {D O : Type 0} (tells : Type 0) (clock : D → Clock) (says : O → Say
 
       by_end : (came : Bool) (trace : Trace) (end : Ended) → EndedBy came tells clock says far counts net scene (pass_of item) new before after trace end → Stepped old new was closed before after end
       by_end came trace ended.Complete ends = over _ (with_saves trace ends.saves) (Done (total_by scene trace) ends.digest) ended.Complete tt ends.over.goes (refl, refl)
-      by_end came trace (ended.Stopped reason) ends = over _ (with_saves trace ends.saves) (Broken ends.cause) (ended.Stopped reason) (met_counted trace ends.saves ends.cause ends.met) ends.over.goes (refl, refl)
+      by_end came trace (ended.Stopped reason) ends = over _ (with_saves trace ends.saves) (Broken ends.cause) (ended.Stopped reason) (met_counted came trace ends.saves ends.cause ends.met) ends.over.goes (refl, refl)
       by_end came trace (ended.Fault faults.NoMemory) ends = over _ (with_saves trace ends.0) (Broken causes.Memory) (ended.Fault faults.NoMemory) tt ends.1.goes (refl, refl)
       by_end came trace (ended.Fault (faults.File kind)) ends = over _ (with_saves trace ends.1.0) (Broken (causes.File kind)) (ended.Fault (faults.File kind)) (file_counted from to kind ends.0) ends.1.1.goes (refl, refl)
       by_end came trace (ended.Fault (faults.Journal kind)) ends =

@@ -47,7 +47,7 @@ module _ (item : Item) (by : By) (at : ℕ) (sound : IsSound item) where
   bare_test false none = let bare = sound.told.untold (ap (λ (k : Option Key). is_some k) none) in (bare.1, none_by item.total bare.0)
 
   -- nothing is there of a content that isn't known
-  begun_bare : (begun item by at).key ≡ None → ((begun item by at).slices ≡ no_bytes) × ((begun item by at).total ≡ None)
+  pub begun_bare : (begun item by at).key ≡ None → ((begun item by at).slices ≡ no_bytes) × ((begun item by at).total ≡ None)
   begun_bare none =
       let bare = bare_test (begins_anew item) (sym (begun_key item by at) ∙ none) in
       (begun_slices item by at ∙ bare.0, begun_total item by at ∙ bare.1)

@@ -1,10 +1,9 @@
--- What a desk shows stops no attempt, where the disk was good at its start and a name is free: but for a stated digest that differs.
+-- What a desk shows stops no attempt, where the disk was good at its start and a name is free: but for a sum that differs from the stated one.
 use Rattle.std.proofs.Common.{◌≡◌, ◌⊎◌, inl, inr, ◌<◌, ◌≤◌, ℕ, ◌-◌, ◌==◌, cond, zero, suc, Bool, true, false, IsTrue, List, [], ◌∷◌, ◌++◌, length, map, Option, Some, None, refl, sym, ◌∙◌, ap, subst, arith}
-use Rattle.std.specs.Prelude.{Any, IsSome, is_some, option_to_list, slice_index, take}
+use Rattle.std.specs.Prelude.{Any, IsSome, is_some, option_to_list}
 use Rattle.std.specs.Option.{option_map}
 use Rattle.std.proofs.lemmas.Bool.{false≢true}
-use Rattle.std.proofs.lemmas.List.{get_or-take, length-take-le, take_all}
-use Rattle.sha2.specs.Sha256.{sha256}
+use Rattle.std.proofs.lemmas.List.{take_all}
 use Rattle.std.proofs.lemmas.Option.{none-some}
 use Rattle.dm_types.specs.Name.{IsPart, fold_case}
 use Rattle.dm_types.specs.declared.entry.Entry.TheVariants as entries
@@ -52,16 +51,10 @@ use Rattle.dm_attempt.specs.Live.{LiveDesk}
 use Rattle.dm_attempt.specs.Scene.{Scene, cover_by, told_by}
 use Rattle.dm_attempt.specs.Shows.{BeginMet, DeskMet, ShowsEnd, total_by}
 use Rattle.dm_attempt.specs.Trace.{Tale, Trace, told_entries}
+use Rattle.dm_attempt.proofs.Brought.{bytes_there}
 use Rattle.dm_attempt.proofs.Items.{all_saves, found_id}
-use Rattle.dm_fetch.specs.Completes.{AreSaid, HasFree, names_begun}
+use Rattle.dm_fetch.specs.Completes.{HasFree, names_begun}
 use Rattle.dm_fetch.proofs.Begun.{and_left}
-
-bytes_by : (folder : Folder) (name : List ℕ) (found : Option ℕ) → names_of folder name ≡ found → IsSome found → (bytes : List ℕ) × (contents_of folder name ≡ Some bytes)
-bytes_by folder name None is some = absurd (false≢true some)
-bytes_by folder name (Some number) is some = ((folder.file number).bytes, ap (option_map (λ (n : ℕ). (folder.file n).bytes)) is)
-
-bytes_there : (folder : Folder) (name : List ℕ) → IsSome (names_of folder name) → (bytes : List ℕ) × (contents_of folder name ≡ Some bytes)
-bytes_there folder name some = bytes_by folder name (names_of folder name) refl some
 
 -- Of a good disk each live place of a part has a byte.
 
@@ -87,18 +80,6 @@ module _ {D O : Type 0} (clock : D → Clock) (says : Says) (desk : View D O) (h
         λ place has. subst (λ (found : Option (List ℕ)). place < length_of found) (sym reads.1) (said place has).0,
         λ place has. subst (λ (found : Option (List ℕ)). place < length_of found) (sym reads.1) (said place (kept.0.filed.holds place has)).0,
       )
-
-  -- what the origin says of the live places
-  pub live_said : (validator : Key) (address : List ℕ) → item.key ≡ Some validator → item.last_address ≡ Some address → (bytes : List ℕ) → part_bytes clock desk.disk item ≡ Some bytes
-      → (place : ℕ) → HasByte (live_of (covers_of desk.lives) item) place → says address validator place (slice_index bytes place)
-  live_said validator address key_is address_is bytes reads place has =
-      let sits = at_rest true says clock desk history whole holds in
-      let sound = sound_in history desk.items id.0 item holds.items there in
-      let name = there_is item.name (sound.told.has_name ∙ told) in
-      let claim : Claim = claim_of name.it (live_of (covers_of desk.lives) item) item in
-      let kept : FileKept (says address validator) (now (clock desk.disk)).files (Some Going) claim =
-      subst (λ (s : Option Stage). FileKept (says address validator) (now (clock desk.disk)).files s claim) going (sits.rests.facts id.0 item listed validator address name.it key_is address_is name.is) in
-      ((part_reads (says address validator) claim (now (clock desk.disk)) refl kept.0 bytes reads).0 place has).1
 
 end_by : (slices : List Slice) (size : ℕ) → HasLast slices → ((place : ℕ) → HasByte slices place → place < size) → cover_end slices ≤ size
 end_by slices size (inl none) below = omega (arith, none)
@@ -169,11 +150,6 @@ run_both : (first second : History) (v : Listing) → run_of (first ++ second) v
 run_both [] second v = refl
 run_both (entry ∷ first) second v = run_both first second (applied entry v)
 
--- where the length is known the validator is
-key_known : (key : Option Key) (total : Option ℕ) (t : ℕ) → total ≡ Some t → (is_some key ≡ false → is_some total ≡ false) → IsSome key
-key_known None total t known none = absurd (false≢true (sym (none refl) ∙ ap (λ (found : Option ℕ). is_some found) known))
-key_known (Some key) total t known none = refl
-
 -- What is known of the content, or nothing is there.
 abbrev pub IsDescribed : {D O : Type 0} → Scene D O → Trace → Type 0
 IsDescribed scene trace = IsSome (told_by scene trace.told).key ⊎ (total_by scene trace ≡ 0)
@@ -205,34 +181,6 @@ module _ {D O : Type 0} (tells : Type 0) (clock : D → Clock) (says : O → Say
         let has = shows.3 told in
         omega (arith, below, has)
 
-    -- A content of known length has the sum that was stated, where its bytes have.
-    sum_never : (have wanted : List ℕ) (t : ℕ) → (told_by scene trace.told).total ≡ Some t → ShowsEnd tells clock scene desk trace (causes.DigestDiffers have wanted)
-        → ((validator : Key) (address bytes : List ℕ) → (told_by scene trace.told).key ≡ Some validator → (told_by scene trace.told).last_address ≡ Some address → length bytes ≡ t → AreSaid (says scene.start.origin) address validator bytes → wanted ≡ sha256 bytes) → ⊥
-    sum_never have wanted t known shows stated =
-        let item = live.runs.item in
-        let saved = all_saves scene.item.id trace.saves (told_by scene trace.told) in
-        let held = (live.goes.keeps told true history holds).holds in
-        let sound = sound_in (history ++ added scene.start desk) desk.items pass.id.0 item held.items live.runs.there in
-        let total_is : item.total ≡ Some t = ap (λ (i : Item). i.total) live.runs.is.item_is ∙ ap (λ (i : Item). i.total) saved ∙ known in
-        let some : IsSome item.key = key_known item.key item.total t total_is (λ none. (sound.told.untold none).0) in
-        let key = there_is item.key some in
-        let address = there_is item.last_address (sound.told.has_address ∙ some) in
-        let same : part_bytes clock desk.disk item ≡ part_bytes clock desk.disk (told_by scene trace.told) = ap (λ (i : Item). part_bytes clock desk.disk i) live.runs.is.item_is ∙ ap (λ (i : Item). part_bytes clock desk.disk i) saved in
-        let sum = shows.3 told in
-        let total : total_by scene trace ≡ t = ap (λ (found : Option ℕ). get found (cover_end (cover_by scene trace))) known in
-        let long : length (take (total_by scene trace) sum.bytes) ≡ t = length-take-le (total_by scene trace) sum.bytes sum.long ∙ total in
-        let live_is : live_of (covers_of desk.lives) item ≡ cover_by scene trace =
-        ap (λ (found : Option (List Slice)). get found item.slices)
-        (ap (covers_of desk.lives) (found_id pass.id.0 desk.items.items item live.runs.there) ∙ ap (option_map (λ (l : Life). l.cover)) live.runs.lives) ∙ live.runs.is.cover_is in
-        let said : AreSaid (says scene.start.origin) address.it key.it (take (total_by scene trace) sum.bytes) = λ place below.
-        let low : place < total_by scene trace = omega (arith, below, long, total) in
-        subst (λ (byte : ℕ). says scene.start.origin address.it key.it place byte) (sym (get_or-take (total_by scene trace) sum.bytes place 0 low))
-        (live_said clock (says scene.start.origin) desk (history ++ added scene.start desk) live.goes.went.broken_is held pass.id item live.runs.there some (going_is item.phase live.runs.runs) key.it address.it key.is address.is sum.bytes (same ∙ sum.there)
-        place (subst (λ (c : List Slice). HasByte c place) (sym live_is) (shows.0 place low))) in
-        let own_key = sym (ap (λ (i : Item). i.key) live.runs.is.item_is ∙ ap (λ (i : Item). i.key) saved) ∙ key.is in
-        let own_address = sym (ap (λ (i : Item). i.last_address) live.runs.is.item_is ∙ ap (λ (i : Item). i.last_address) saved) ∙ address.is in
-        shows.2 (sum.sum_is ∙ sym (stated key.it address.it (take (total_by scene trace) sum.bytes) own_key own_address long said))
-
     -- a name was free
     names_never : (wish : List ℕ) → HasFree clock scene.start (names_begun scene.start scene.item scene.by scene.at) wish → trace.told ≡ None → WithNames tells clock desk (AreAllTaken wish) → ⊥
     names_never wish free none names = by (any_cases (λ (other : List ℕ). fold_case other ≡ fold_case (form wish free.number)) names.listed (used_names desk.items.items) (names.is free.number free.within))
@@ -262,11 +210,6 @@ module _ {D O : Type 0} (tells : Type 0) (clock : D → Clock) (says : O → Say
   met_differs (causes.DigestDiffers have wanted) described free met = record { have = have; wanted = wanted; is = refl; met = met }
   met_differs (causes.PartShort have wanted) described free met = absurd (short_never met.desk met.live have wanted described met.is)
   met_differs cause described free met = absurd met.is
-
-  -- of a known length there is no other sum
-  pub sum_stated : (have wanted : List ℕ) (t : ℕ) → (told_by scene trace.told).total ≡ Some t → DeskMet tells clock says far counts scene pass trace (causes.DigestDiffers have wanted)
-      → ((validator : Key) (address bytes : List ℕ) → (told_by scene trace.told).key ≡ Some validator → (told_by scene trace.told).last_address ≡ Some address → length bytes ≡ t → AreSaid (says scene.start.origin) address validator bytes → wanted ≡ sha256 bytes) → ⊥
-  sum_stated have wanted t known met stated = sum_never met.desk met.live have wanted t known met.is stated
 
   -- nothing is too short as an attempt begins
   begin_never : (cause : Cause) → item_in scene.item.id.0 scene.start.items.items ≡ Some scene.item → IsTrue (may_begin scene.by scene.item) → BeginMet tells clock scene trace cause → ⊥

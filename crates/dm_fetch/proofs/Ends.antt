@@ -97,23 +97,23 @@ module _ {D O : Type 0} (tells : Type 0) (clock : D → Clock) (says : O → Say
     abbrev Met : Cause → Type 0
     Met cause = IsDeskCause tells clock says far counts scene pass trace cause ⊎ MetAtNet net before after scene trace cause
 
-    cause_of : (stop : Stop) → IfBroke stop (MetAtNet net before after scene trace) → (cause : Cause) → IsCauseOf tells clock says far counts scene pass trace stop cause → Met cause
-    cause_of (stops.Broke met) shown cause of = inr (subst (MetAtNet net before after scene trace) (sym of) shown)
-    cause_of stops.NoMemory shown cause of = absurd of
-    cause_of (stops.Fault fault) shown cause of = absurd of
-    cause_of (stops.Recorded reason) shown cause of = inl of
+    cause_of : (came : Bool) (stop : Stop) → IfBroke stop (MetAtNet net before after scene trace) → (cause : Cause) → IsCauseOf came tells clock says far counts scene pass trace stop cause → Met cause
+    cause_of came (stops.Broke met) shown cause of = inr (subst (MetAtNet net before after scene trace) (sym of) shown)
+    cause_of came stops.NoMemory shown cause of = absurd of
+    cause_of came (stops.Fault fault) shown cause of = absurd of
+    cause_of came (stops.Recorded reason) shown cause of = inl of.0
 
-    met_by : (stop : Stop) → IfBroke stop (MetAtNet net before after scene trace) → (saves : List (List Slice)) (cause : Cause) → IsCauseOf tells clock says far counts scene pass trace stop cause → IsSavedFor scene trace saves stop
-        → IsMetBy tells clock says far counts net scene pass before after trace saves cause
-    met_by (stops.Broke met) shown saves cause of saved = at_net (subst (MetAtNet net before after scene trace) (sym of) shown) saved
-    met_by stops.NoMemory shown saves cause of saved = absurd of
-    met_by (stops.Fault fault) shown saves cause of saved = absurd of
-    met_by (stops.Recorded reason) shown saves cause of saved = at_desk of
+    met_by : (came : Bool) (stop : Stop) → IfBroke stop (MetAtNet net before after scene trace) → (saves : List (List Slice)) (cause : Cause) → IsCauseOf came tells clock says far counts scene pass trace stop cause → IsSavedFor scene trace saves stop
+        → IsMetBy came tells clock says far counts net scene pass before after trace saves cause
+    met_by came (stops.Broke met) shown saves cause of saved = at_net (subst (MetAtNet net before after scene trace) (sym of) shown) saved
+    met_by came stops.NoMemory shown saves cause of saved = absurd of
+    met_by came (stops.Fault fault) shown saves cause of saved = absurd of
+    met_by came (stops.Recorded reason) shown saves cause of saved = at_desk of.0 of.1
 
     pub ends_by : (came : Bool) (stop : Stop) (end : Ended) → IfBroke stop (MetAtNet net before after scene trace) → EndsBy came tells clock says far counts scene pass new trace stop end → EndedBy came tells clock says far counts net scene pass new before after trace end
     ends_by came stop ended.Complete shown ends = absurd ends
-    ends_by came stop (ended.Stopped reason) shown ends = record { cause = ends.cause; reason_is = ends.reason_is; saves = ends.saves; met = met_by stop shown ends.saves ends.cause ends.of ends.saved; over = ends.over }
-    ends_by came stop (ended.Fault fault) shown ends = fault_map came scene new trace (IsCauseOf tells clock says far counts scene pass trace stop) Met (cause_of stop shown) fault ends
+    ends_by came stop (ended.Stopped reason) shown ends = record { cause = ends.cause; reason_is = ends.reason_is; saves = ends.saves; met = met_by came stop shown ends.saves ends.cause ends.of ends.saved; over = ends.over }
+    ends_by came stop (ended.Fault fault) shown ends = fault_map came scene new trace (IsCauseOf came tells clock says far counts scene pass trace stop) Met (cause_of came stop shown) fault ends
 
   module _ (net : Type 0) (scene : Scene D O) (pass : Pass) (old new : View D O) (closed : List Closed) (before after : NetFault → ℕ) (slices : ℕ) (stop : Stop) (left : DriveStops tells clock says far counts net scene pass old closed before after slices stop) where
     -- an attempt that stopped was ended
@@ -132,7 +132,7 @@ module _ {D O : Type 0} (tells : Type 0) (clock : D → Clock) (says : O → Say
       came = false;
       some = λ never. absurd (false≢true never);
       all = λ never. absurd (false≢true never);
-      ends = record { cause = causes.PartShort have wanted; reason_is = refl; saves = []; met = at_desk (inr (record { have = have; wanted = wanted; is = refl; short = found.is.short; untold = refl; none = refl })); over = found.is.over was before };
+      ends = record { cause = causes.PartShort have wanted; reason_is = refl; saves = []; met = at_desk (inr (record { have = have; wanted = wanted; is = refl; short = found.is.short; untold = refl; none = refl })) tt; over = found.is.over was before };
     }
 
     failed_tried : (fault : DeskFault) → (found : ItemWith old id (StartsFailing tells clock says far counts old new by at fault))

@@ -1,8 +1,8 @@
 -- What is known of a content is what was kept, or what an entry tells.
-use Rattle.std.proofs.Common.{◌≡◌, inl, inr, ℕ, cond, Bool, true, false, List, [], ◌∷◌, ◌++◌, map, Option, Some, None, refl, sym, ◌∙◌, ap, subst, arith}
+use Rattle.std.proofs.Common.{◌≡◌, inl, inr, ℕ, List, [], ◌∷◌, ◌++◌, map, Option, Some, None, refl, sym, subst, arith}
 use Rattle.std.specs.List.{Contains}
 use Rattle.std.proofs.lemmas.List.Elements.{Contains-append_left, Contains-append_right}
-use Rattle.std.proofs.lemmas.Option.{none-some, same_Some}
+use Rattle.std.proofs.lemmas.Option.{same_Some}
 use Rattle.dm_types.specs.declared.entry.Entry.TheVariants as entries
 use Rattle.dm_types.specs.declared.item.Item.{Item}
 use Rattle.dm_types.specs.declared.item.ItemId.{ItemId}
@@ -12,7 +12,7 @@ use Rattle.dm_edge.specs.Wire.{Purpose}
 use Rattle.dm_edge.specs.declared.wanted.Wanted.{Wanted}
 use Rattle.dm_item.specs.Lawful.{History}
 use Rattle.dm_slice.specs.declared.plan.Part.{Part}
-use Rattle.dm_answers.specs.Begin.{beginning, begins_anew}
+use Rattle.dm_answers.specs.Begin.{beginning}
 use Rattle.dm_attempt.specs.declared.source.Source.{Source}
 use Rattle.dm_attempt.specs.Asking.{Asking, IsRangeOf, WantedBy}
 use Rattle.dm_attempt.specs.Live.{all_entries}
@@ -21,7 +21,6 @@ use Rattle.dm_attempt.specs.Trace.{Close, Round, Tale, Trace, close_entries, tol
 use Rattle.dm_attempt.proofs.Items.{all_id}
 use Rattle.dm_rounds.specs.Trail.{asking_behind}
 use Rattle.dm_fetch.specs.Known.{IsKnownOf, OfKnown, kept, told}
-use Rattle.dm_fetch.proofs.Begun.{begun_address, begun_key, begun_total}
 
 -- of the content that ranges are asked of the total is known
 abbrev pub AsksKnown : Item → History → Asking → Type 0
@@ -65,25 +64,11 @@ module _ {D O : Type 0} (scene : Scene D O) (trace : Trace) (close : Close) (lis
       (subst (λ (a : List ℕ). Contains list (entries.Described scene.item.id tale.key a (Some total) tale.name tale.modified)) own_address
       (subst (λ (t : Option ℕ). Contains list (entries.Described scene.item.id tale.key tale.address.text t tale.name tale.modified)) total_is among)))
 
-  kept_by : (test : Bool) → cond test None scene.item.key ≡ Some validator → cond test None scene.item.last_address ≡ Some address → cond test None scene.item.total ≡ Some total → IsKnownOf scene.item list validator address total
-  kept_by true key_is address_is total_is = absurd (none-some validator key_is)
-  kept_by false key_is address_is total_is = kept key_is address_is total_is
-
-  known_by : (old : History) → list ≡ old ++ all_entries scene trace close → (tale : Option Tale) → trace.told ≡ tale → (told_by scene tale).key ≡ Some validator → (told_by scene tale).last_address ≡ Some address → (told_by scene tale).total ≡ Some total
-      → IsKnownOf scene.item list validator address total
-  known_by old list_is None is key_is address_is total_is =
-      kept_by (begins_anew scene.item) (sym (begun_key scene.item scene.by scene.at) ∙ key_is) (sym (begun_address scene.item scene.by scene.at) ∙ address_is) (sym (begun_total scene.item scene.by scene.at) ∙ total_is)
-  known_by old list_is (Some tale) is key_is address_is total_is = told tale.name tale.modified (tale_entry old list_is tale is key_is address_is total_is scene.item.id refl)
-
-  -- the same of the item as the attempt has begun
+  -- what is known of the content, by the item as the attempt has begun it
   begun_by_known : (old : History) → list ≡ old ++ all_entries scene trace close → (tale : Option Tale) → trace.told ≡ tale → (told_by scene tale).key ≡ Some validator → (told_by scene tale).last_address ≡ Some address → (told_by scene tale).total ≡ Some total
       → IsKnownOf (begun_by scene) list validator address total
   begun_by_known old list_is None is key_is address_is total_is = kept key_is address_is total_is
   begun_by_known old list_is (Some tale) is key_is address_is total_is = told tale.name tale.modified (tale_entry old list_is tale is key_is address_is total_is (begun_by scene).id (all_id (beginning scene.item scene.by scene.at) scene.item))
-
-pub known_left : {D O : Type 0} (scene : Scene D O) (trace : Trace) (close : Close) (list : History) → list ≡ scene.start.list ++ all_entries scene trace close → (validator : Key) (address : List ℕ) (total : ℕ) → (told_by scene trace.told).key ≡ Some validator
-    → (told_by scene trace.told).last_address ≡ Some address → (told_by scene trace.told).total ≡ Some total → IsKnownOf scene.item list validator address total
-known_left scene trace close list list_is validator address total key_is address_is total_is = known_by scene trace close list validator address total scene.start.list list_is trace.told refl key_is address_is total_is
 
 -- What is known of an attempt's content, by the item as it has begun.
 abbrev pub Knows : {D O : Type 0} → Scene D O → Trace → History → Type 0

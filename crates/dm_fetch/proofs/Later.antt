@@ -1,5 +1,6 @@
 -- No count of the disk falls over an attempt, or over all that an item makes; and the connections of the first are among those of all.
-use Rattle.std.proofs.Common.{◌≡◌, ◌⊎◌, inl, inr, ◌≤◌, ℕ, List, [], ◌∷◌, ◌++◌, length, Some, refl, sym, ◌∙◌, ap, subst, arith, append_assoc, Bool}
+use Rattle.std.proofs.Common.{◌≡◌, ◌⊎◌, inl, inr, ◌≤◌, ℕ, List, [], ◌∷◌, ◌++◌, Option, Some, None, refl, sym, ◌∙◌, ap, subst, arith, append_assoc, Bool}
+use Rattle.std.specs.Prelude.{IfSome}
 use Rattle.std.specs.List.{Contains}
 use Rattle.std.proofs.lemmas.List.{append-nil}
 use Rattle.std.proofs.lemmas.List.Elements.{Contains-append_left}
@@ -32,7 +33,7 @@ use Rattle.dm_attempt.specs.Ending.{FaultEnds, IsDeskCause}
 use Rattle.dm_attempt.specs.Scene.{Scene}
 use Rattle.dm_attempt.specs.Trace.{Trace, connections_of}
 use Rattle.dm_fetch.specs.Attempts.{Attempts, EndedBy, MetAtNet, refused, tried, wanting}
-use Rattle.dm_fetch.specs.Completes.{CompletesAtOnce, CompletesOr, IsSmooth}
+use Rattle.dm_fetch.specs.Completes.{CompletesAtOnce, CompletesOr, IsOneContent, IsSmooth}
 use Rattle.dm_fetch.specs.Known.{IsKnownOf, OfKnown, kept, told}
 use Rattle.dm_fetch.specs.Fetches.{Fetches, again, once}
 use Rattle.dm_fetch.specs.Serves.{IsRowOf, ServesWhole}
@@ -127,6 +128,20 @@ serves_front item list longer more front rest is serves = record {
   few = λ row own all. serves.few row (row_front row front rest own) all;
 }
 
+-- what they bring is of one content, where what all bring is
+one_front : {D : Type 0} (clock : D → Clock) (disk : D) (item : Item) (list longer more : History) (front rest : List Closed) → longer ≡ list ++ more → (digest : List ℕ) → IsOneContent clock disk item longer (front ++ rest) digest → IsOneContent clock disk item list front digest
+one_front clock disk item list longer more front rest is digest one = record {
+  content = one.content;
+  sum = one.sum;
+  each = λ c wanted among known sent. one.each c wanted (Contains-append_left front rest c among) (of_more item list longer more is c.purpose.address.text wanted known) sent;
+  saved = one.saved;
+  total = one.total;
+}
+
+one_if : {D : Type 0} (clock : D → Clock) (disk : D) (item : Item) (list longer more : History) (front rest : List Closed) → longer ≡ list ++ more → (stated : Option (List ℕ)) → IfSome stated (IsOneContent clock disk item longer (front ++ rest)) → IfSome stated (IsOneContent clock disk item list front)
+one_if clock disk item list longer more front rest is None one = tt
+one_if clock disk item list longer more front rest is (Some digest) one = one_front clock disk item list longer more front rest is digest one
+
 module _ {D O : Type 0} (tells : Type 0) (clock : D → Clock) (says : O → Says) (far : D → ℕ) (counts : D → DiskKind → ℕ) (net : Type 0) (id : ItemId) (slices at : ℕ) (new : View D O) (now : List Closed) (after : NetFault → ℕ) (end : Ended) where
   abbrev All : View D O → List Closed → (NetFault → ℕ) → By → ℕ → Type 0
   All old was before by more = Fetches tells clock says far counts net id slices at new now after end old was before by more
@@ -180,27 +195,22 @@ module _ {D O : Type 0} (tells : Type 0) (clock : D → Clock) (says : O → Say
         let last = rest.closed smooth.told in
         serves_front _ mid.list new.list rest.disk.1.0 connections last.0 rest.disk.1.1 (smooth.serves (connections ++ last.0) (last.1 ∙ ap (λ (l : List Closed). l ++ last.0) is ∙ append_assoc was connections last.0));
     free = smooth.free;
-    stated = λ validator address bytes known said. smooth.stated validator address bytes (known_more smooth.item mid.list new.list rest.disk.1.0 rest.disk.1.1 validator address (length bytes) known) said;
+    stated = λ connections is.
+        let last = rest.closed smooth.told in
+        one_if clock old.disk _ mid.list new.list rest.disk.1.0 connections last.0 rest.disk.1.1 smooth.item.digest
+        (smooth.stated (connections ++ last.0) (last.1 ∙ ap (λ (l : List Closed). l ++ last.0) is ∙ append_assoc was connections last.0));
   }
 
   module _ (each : tells → (disk : D) (t : ℕ) → IsSoundDisk ((clock disk).at t)) (some : 1 ≤ slices) where
-    at_once : (old : View D O) (was : List Closed) (before : NetFault → ℕ) (by : By) → CompletesOr tells clock says far counts old was before id by at end → Attempts tells clock says far counts net old new was now before after id by slices at end
-        → CompletesAtOnce tells clock says far counts net old new was now before after id by slices at end
-    at_once old was before by (inl is) did = inl (is, subst (λ (e : Ended). Attempts tells clock says far counts net old new was now before after id by slices at e) is did)
-    at_once old was before by (inr (inl is)) did = inr (inl (is, subst (λ (e : Ended). Attempts tells clock says far counts net old new was now before after id by slices at e) is did))
-    at_once old was before by (inr (inr differs)) did = inr (inr differs.1)
+    -- no attempt is stopped
+    stopped_none : (reason : Reason) → CompletesOr (ended.Stopped reason) → ⊥
+    stopped_none reason (inl is) = absurd cc
+    stopped_none reason (inr is) = absurd cc
 
-    -- an attempt that was stopped, where nothing stood in the way, found another sum
-    stopped_once : (old : View D O) (was : List Closed) (before : NetFault → ℕ) (by : By) (reason : Reason) → CompletesOr tells clock says far counts old was before id by at (ended.Stopped reason)
-        → CompletesAtOnce tells clock says far counts net old new was now before after id by slices at end
-    stopped_once old was before by reason (inl is) = absurd cc
-    stopped_once old was before by reason (inr (inl is)) = absurd cc
-    stopped_once old was before by reason (inr (inr differs)) = inr (inr differs.1)
-
-    -- Where nothing stands in the way, an item is complete after one attempt, or memory was wanting, or the content has another sum than the one that was stated.
+    -- Where nothing stands in the way, an item is complete after one attempt, or memory was wanting.
     pub fetch_completes : (old : View D O) (was : List Closed) (before : NetFault → ℕ) (by : By) (more : ℕ) → All old was before by more → IsSmooth tells clock says counts net old new was now before after id by at
         → CompletesAtOnce tells clock says far counts net old new was now before after id by slices at end
-    fetch_completes old was before by more (once _ _ _ _ did later stays) smooth = at_once old was before by (completes_or tells clock says far counts net old new was now before after id by slices at each some smooth end did) did
+    fetch_completes old was before by more (once _ _ _ _ did later stays) smooth = (completes_or tells clock says far counts net old new was now before after id by slices at each some smooth end did, did)
     fetch_completes old was before by _ (again _ _ _ _ mid between amid reason others did later goes all) smooth =
-        stopped_once old was before by reason
-        (completes_or tells clock says far counts net old mid was between before amid id by slices at each some (smooth_first old mid was between before amid by (behind mid between amid Itself others all) smooth) (ended.Stopped reason) did)
+        absurd (stopped_none reason
+        (completes_or tells clock says far counts net old mid was between before amid id by slices at each some (smooth_first old mid was between before amid by (behind mid between amid Itself others all) smooth) (ended.Stopped reason) did))

@@ -11,6 +11,7 @@ mod Known
 mod Sources
 mod Asked
 pub mod Served
+mod Contents
 pub mod Smooth
 mod Rows
 pub mod Later

@@ -42,10 +42,14 @@ abbrev is_redirect : Outcome → Type 0
 is_redirect (Redirect head location) = Unit {0}
 is_redirect outcome = ⊥
 
+-- no head is both one of content and one of a redirect
+pub content_alone : (stream : List ℕ) (head : ResponseHead) (framing : Framing) (rest : List ℕ) (other : ResponseHead) (location : List ℕ) → BeginsContent Whole stream head framing rest → BeginsRedirect Whole stream other location → ⊥
+content_alone stream head framing rest other location begins leads = subst is_redirect (one_outcome Whole stream (Redirect other location) (Content head framing rest) leads begins) tt
+
 redirect_no_content : (stream : List ℕ) (head : ResponseHead) (location : List ℕ) → BeginsRedirect Whole stream head location → (given : List ℕ) (cause : Cause) → ContentBroke Whole stream given cause → ⊥
 redirect_no_content stream head location begins given cause broke =
     let has = content_begins stream given cause broke in
-    subst is_redirect (one_outcome Whole stream (Redirect head location) (Content has.head has.framing has.rest) begins has.begins) tt
+    content_alone stream has.head has.framing has.rest head location has.begins begins
 
 -- no count of the net rose that the cause shows in
 abbrev pub IsQuiet : (NetFault → ℕ) → (NetFault → ℕ) → Cause → Type 0

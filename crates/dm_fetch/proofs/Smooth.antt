@@ -1,7 +1,6 @@
--- Where nothing fails and all is served, few causes stop an attempt.
+-- Where nothing fails and all is served, no cause stops an attempt.
 use Rattle.std.proofs.Common.{◌≡◌, ◌≢◌, ◌⊎◌, inl, inr, ◌≤◌, ℕ, length, length-append, List, [], ◌∷◌, ◌++◌, map, Option, Some, None, refl, sym, ◌∙◌, ap, subst, arith, Bool}
-use Rattle.std.specs.Prelude.{IfSome}
-use Rattle.sha2.specs.Sha256.{sha256}
+use Rattle.std.specs.Prelude.{IfSome, IsTrue}
 use Rattle.std.specs.List.{AllByRecursion, Contains}
 use Rattle.std.proofs.lemmas.Bool.{false≢true}
 use Rattle.std.proofs.lemmas.List.{append-nil, get_or-map, length-map}
@@ -16,7 +15,6 @@ use Rattle.dm_types.specs.declared.kinds.By.{By}
 use Rattle.dm_types.specs.declared.kinds.DiskKind.{DiskKind}
 use Rattle.dm_types.specs.declared.reason.Reason.{Reason}
 use Rattle.dm_disk_model.specs.Disk.{History as Clock, IsSoundDisk}
-use Rattle.dm_policy.specs.Cause.{reason_of_cause}
 use Rattle.dm_policy.specs.declared.cause.Cause.{Cause}
 use Rattle.dm_policy.specs.declared.cause.Cause.TheVariants as causes
 use Rattle.dm_request.specs.Request.{request_of}
@@ -36,11 +34,12 @@ use Rattle.dm_kept.specs.Files.{Says}
 use Rattle.dm_store.specs.View.{View}
 use Rattle.dm_store.specs.declared.pass.Pass.{Pass}
 use Rattle.dm_answers.specs.Begin.{may_begin, pass_of}
+use Rattle.dm_answers.specs.Running.{part_bytes}
 use Rattle.dm_answers.specs.declared.fault.DeskFault.{DeskFault}
 use Rattle.dm_answers.specs.declared.fault.DeskFault.TheVariants as faults
 use Rattle.dm_attempt.specs.declared.ended.Ended.{Ended}
 use Rattle.dm_attempt.specs.declared.ended.Ended.TheVariants as ended
-use Rattle.dm_attempt.specs.Ending.{FaultEnds, IsDeskCause}
+use Rattle.dm_attempt.specs.Ending.{FaultEnds, IsDeskCause, ShownBy}
 use Rattle.dm_attempt.specs.Live.{IsPlanned}
 use Rattle.dm_attempt.specs.Scene.{Scene, begun_by, told_by}
 use Rattle.dm_attempt.specs.Trace.{ArePlanned, Broken, Carried, Round, Trace, connections_of, wires_of, with_saves}
@@ -49,14 +48,15 @@ use Rattle.dm_rounds.specs.First.{IsLedAndLost, IsLostAt}
 use Rattle.dm_rounds.specs.Trail.{AreCut, AreUsedUp, ContentShows, HeadShows, IsShown, NetShowsIt}
 use Rattle.dm_rounds.proofs.Causes.{net_apart}
 use Rattle.dm_fetch.specs.Attempts.{Asks, Attempts, IsMetBy, MetAtNet, TriedBy, anew, at_desk, at_net, begins_at, nothing, on, refused, tried, wanting}
-use Rattle.dm_fetch.specs.Completes.{AreSaid, CompletesOr, HasFree, IsSmooth, names_begun}
-use Rattle.dm_fetch.specs.Known.{IsKnownOf, OfKnown}
+use Rattle.dm_fetch.specs.Completes.{CompletesOr, HasFree, IsOneContent, IsSmooth, names_begun}
+use Rattle.dm_fetch.specs.Known.{OfKnown}
 use Rattle.dm_fetch.specs.Serves.{HasAddress, IsRedirection, IsRowOf, ServesWhole}
 use Rattle.dm_fetch.specs.Starts.{BeginRefuses, scene_of}
 use Rattle.dm_fetch.proofs.Asked.{asked_described, asked_wish, used_up_never}
 use Rattle.dm_fetch.proofs.Begun.{told_digest}
-use Rattle.dm_fetch.proofs.Desk.{Differs, desk_differs, sum_stated}
-use Rattle.dm_fetch.proofs.Known.{Knows, known_left, knows_left}
+use Rattle.dm_fetch.proofs.Contents.{sum_stated}
+use Rattle.dm_fetch.proofs.Desk.{Differs, desk_differs}
+use Rattle.dm_fetch.proofs.Known.{Knows, knows_left}
 use Rattle.dm_fetch.proofs.Sources.{content_known, head_known}
 use Rattle.dm_fetch.proofs.Served.{IsEleventh, served_content, served_head}
 
@@ -205,9 +205,6 @@ module _ {D O : Type 0} (tells : Type 0) (clock : D → Clock) (says : O → Say
 
 module _ {D O : Type 0} (tells : Type 0) (clock : D → Clock) (says : O → Says) (far : D → ℕ) (counts : D → DiskKind → ℕ) (net : Type 0) (old new : View D O) (was closed : List Closed) (before after : NetFault → ℕ) (id : ItemId) (by : By) (slices at : ℕ)
     (each : tells → (disk : D) (t : ℕ) → IsSoundDisk ((clock disk).at t)) (some : 1 ≤ slices) (smooth : IsSmooth tells clock says counts net old new was closed before after id by at) where
-  abbrev Completes : Ended → Type 0
-  Completes end = CompletesOr tells clock says far counts old was before id by at end
-
   own_id : smooth.item.id ≡ id
   own_id = ap (λ (n : ℕ). record { 0 = n }) (found_id id.0 old.items.items smooth.item smooth.there)
 
@@ -239,11 +236,15 @@ module _ {D O : Type 0} (tells : Type 0) (clock : D → Clock) (says : O → Say
   abbrev Tries : Ended → Type 0
   Tries end = TriedBy tells clock says far counts net (scene_of old smooth.item by at was before) (pass_of smooth.item) new closed before after slices end
 
-  stopped_left : (reason : Reason) → Tries (ended.Stopped reason) → Completes (ended.Stopped reason)
-  stopped_left reason done = met_left done.ends.met
+  -- nothing stopped it
+  stopped_none : (reason : Reason) → Tries (ended.Stopped reason) → ⊥
+  stopped_none reason done = met_none done.ends.met
     where
       planned : IsPlanned scene (with_saves done.trace done.ends.saves)
       planned = done.ends.over.planned
+
+      knows : Knows scene done.trace new.list
+      knows = knows_left scene (with_saves done.trace done.ends.saves) (Broken done.ends.cause) new.list done.ends.over.goes.went.list_is
 
       serves : ServesWhole (begun_by scene) new.list (connections_of done.trace)
       serves = smooth.serves (connections_of done.trace) (done.closed_is smooth.told)
@@ -251,43 +252,32 @@ module _ {D O : Type 0} (tells : Type 0) (clock : D → Clock) (says : O → Say
       free_wish : (wish : List ℕ) → done.trace.wish ≡ Some wish → HasFree clock old (names_begun old smooth.item by at) wish
       free_wish wish is = smooth.free wish (asked_wish net tells clock says far counts scene (pass_of smooth.item) slices done.trace done.asks wish is)
 
-      stated_by : (have wanted : List ℕ) (t : ℕ) → (told_by scene done.trace.told).total ≡ Some t → (told_by scene done.trace.told).digest ≡ Some wanted → (validator : Key) (address bytes : List ℕ) → (told_by scene done.trace.told).key ≡ Some validator
-          → (told_by scene done.trace.told).last_address ≡ Some address → length bytes ≡ t → AreSaid (says old.origin) address validator bytes → wanted ≡ sha256 bytes
-      stated_by have wanted t known digest validator address bytes key_is address_is long said =
-          let is_known : IsKnownOf smooth.item new.list validator address (length bytes) =
-          subst (IsKnownOf smooth.item new.list validator address) (sym long) (known_left scene (with_saves done.trace done.ends.saves) (Broken done.ends.cause) new.list done.ends.over.goes.went.list_is validator address t key_is address_is known) in
-          subst (λ (d : Option (List ℕ)). IfSome d (λ sum. sum ≡ sha256 bytes)) (sym (told_digest scene done.trace.told) ∙ digest) (smooth.stated validator address bytes is_known said)
+      differs_none : Differs tells clock says far counts scene (pass_of smooth.item) done.trace done.ends.cause → ShownBy done.came done.ends.cause → ⊥
+      differs_none differs asked =
+          let came : IsTrue done.came = subst (ShownBy done.came) differs.is asked in
+          let met = differs.met in
+          let stated : smooth.item.digest ≡ Some differs.wanted = sym (told_digest scene done.trace.told) ∙ met.is.1 in
+          let one = subst (λ (d : Option (List ℕ)). IfSome d (IsOneContent clock old.disk (begun_by scene) new.list (connections_of done.trace))) stated (smooth.stated (connections_of done.trace) (done.closed_is smooth.told)) in
+          met.is.2
+          (sum_stated net smooth.told tells clock says far counts scene (pass_of smooth.item) slices done.trace new.list knows sound_item serves differs.wanted one (done.some came) planned.rounds
+          (part_bytes clock met.desk.disk (told_by scene done.trace.told)) differs.have (done.all came) met.is.0 (met.is.3 smooth.disk_told) (met.live.brought smooth.disk_told one.content one.saved))
 
-      differs_by : (total : Option ℕ) → (told_by scene done.trace.told).total ≡ total → Differs tells clock says far counts scene (pass_of smooth.item) done.trace done.ends.cause → Completes (ended.Stopped reason)
-      differs_by None untold differs = inr (inr (
-        ap (λ (r : Reason). ended.Stopped r) (done.ends.reason_is ∙ ap reason_of_cause differs.is),
-        record {
-          item = smooth.item;
-          there = smooth.there;
-          is = record { trace = done.trace; have = differs.have; wanted = differs.wanted; stated = sym (told_digest scene done.trace.told) ∙ differs.met.is.1; untold = untold; met = differs.met };
-        },
-      ))
-      differs_by (Some t) known differs =
-          absurd (sum_stated tells clock says far counts scene (pass_of smooth.item) done.trace smooth.disk_told (each smooth.disk_told) smooth.history smooth.whole smooth.holds differs.have differs.wanted t known differs.met
-          (stated_by differs.have differs.wanted t known differs.met.is.1))
-
-      differs_left : Differs tells clock says far counts scene (pass_of smooth.item) done.trace done.ends.cause → Completes (ended.Stopped reason)
-      differs_left differs = differs_by (told_by scene done.trace.told).total refl differs
-
-      met_left : IsMetBy tells clock says far counts net scene (pass_of smooth.item) before after done.trace done.ends.saves done.ends.cause → Completes (ended.Stopped reason)
-      met_left (at_desk shows) =
-          differs_left (desk_differs tells clock says far counts scene (pass_of smooth.item) done.trace smooth.disk_told (each smooth.disk_told) smooth.history smooth.whole smooth.holds done.ends.cause
+      met_none : IsMetBy done.came tells clock says far counts net scene (pass_of smooth.item) before after done.trace done.ends.saves done.ends.cause → ⊥
+      met_none (at_desk shows asked) =
+          differs_none
+          (desk_differs tells clock says far counts scene (pass_of smooth.item) done.trace smooth.disk_told (each smooth.disk_told) smooth.history smooth.whole smooth.holds done.ends.cause
           (subst (λ (i : ItemId). item_in i.0 old.items.items ≡ Some smooth.item) (sym own_id) smooth.there) smooth.may
           (asked_described net tells clock says far counts scene (pass_of smooth.item) slices done.trace done.asks sound_item) free_wish shows)
-      met_left (at_net shows saved) =
-          absurd (net_none tells clock says far counts net smooth.told scene (pass_of smooth.item) slices before after smooth.quiet done.trace done.asks new.list (knows_left scene (with_saves done.trace done.ends.saves) (Broken done.ends.cause) new.list done.ends.over.goes.went.list_is) serves done.ends.cause some smooth.desk.limits_are.min_slice.0 sound_item planned.rounds shows)
+          asked
+      met_none (at_net shows saved) =
+          net_none tells clock says far counts net smooth.told scene (pass_of smooth.item) slices before after smooth.quiet done.trace done.asks new.list knows serves done.ends.cause some smooth.desk.limits_are.min_slice.0 sound_item planned.rounds shows
 
-  tried_left : (end : Ended) → Tries end → Completes end
+  tried_left : (end : Ended) → Tries end → CompletesOr end
   tried_left ended.Complete done = inl refl
   tried_left (ended.Fault fault) done =
-      inr (inl (ap (λ (f : DeskFault). ended.Fault f)
-      (fault_left done.came scene refl done.trace (λ cause. IsDeskCause tells clock says far counts scene (pass_of smooth.item) done.trace cause ⊎ MetAtNet net before after scene done.trace cause) fault done.ends)))
-  tried_left (ended.Stopped reason) done = stopped_left reason done
+      inr (ap (λ (f : DeskFault). ended.Fault f)
+      (fault_left done.came scene refl done.trace (λ cause. IsDeskCause tells clock says far counts scene (pass_of smooth.item) done.trace cause ⊎ MetAtNet net before after scene done.trace cause) fault done.ends))
+  tried_left (ended.Stopped reason) done = absurd (stopped_none reason done)
 
   -- it is refused for want of memory alone
   refused_left : (fault : DeskFault) → BeginRefuses tells clock counts old new id by at fault → fault ≡ faults.NoMemory
@@ -306,9 +296,9 @@ module _ {D O : Type 0} (tells : Type 0) (clock : D → Clock) (says : O → Say
   refused_left (faults.WordTaken other) why = absurd why
   refused_left (faults.Damaged place) why = absurd why
 
-  -- Where nothing stands in the way, an attempt completes, or memory was wanting, or the content has another sum than the one that was stated.
-  pub completes_or : (end : Ended) → Attempts tells clock says far counts net old new was closed before after id by slices at end → Completes end
-  completes_or end (wanting is same still) = inr (inl is)
-  completes_or end (refused fault is why still) = inr (inl (is ∙ ap (λ (f : DeskFault). ended.Fault f) (refused_left fault why)))
+  -- Where nothing stands in the way, an attempt completes, or memory was wanting.
+  pub completes_or : (end : Ended) → Attempts tells clock says far counts net old new was closed before after id by slices at end → CompletesOr end
+  completes_or end (wanting is same still) = inr is
+  completes_or end (refused fault is why still) = inr (is ∙ ap (λ (f : DeskFault). ended.Fault f) (refused_left fault why))
   completes_or end (tried found) =
       tried_left end (subst (λ (item : Item). TriedBy tells clock says far counts net (scene_of old item by at was before) (pass_of item) new closed before after slices end) (own_item found.item found.there) found.is)

@@ -1,9 +1,9 @@
 -- What `begin` leaves of an attempt.
-use Rattle.std.proofs.Common.{◌≡◌, ◌⊎◌, inl, inr, ◌≤◌, ℕ, Bool, true, false, IsTrue, List, [], ◌∷◌, ◌++◌, length, Some, Err, refl, sym, ◌∙◌, ap, subst, append_assoc}
+use Rattle.std.proofs.Common.{◌≡◌, ◌⊎◌, inl, inr, ◌≤◌, ℕ, Bool, true, false, IsTrue, List, [], ◌∷◌, ◌++◌, length, Some, Err, refl, sym, ◌∙◌, ap, subst, arith, append_assoc}
 use Rattle.std.specs.Prelude.{IfSome}
 use Rattle.std.proofs.lemmas.List.{append-nil}
 use Rattle.dm_types.specs.Faults.{Rose}
-use Rattle.dm_types.specs.Name.{IsPart}
+use Rattle.dm_types.specs.Name.{IsPart, part_name}
 use Rattle.dm_types.specs.declared.entry.Entry.{Entry}
 use Rattle.dm_types.specs.declared.entry.Entry.TheVariants as entries
 use Rattle.dm_types.specs.declared.item.Item.{Item}
@@ -12,6 +12,8 @@ use Rattle.dm_types.specs.declared.kinds.By.{By}
 use Rattle.dm_types.specs.declared.kinds.DiskKind.{DiskKind}
 use Rattle.dm_types.specs.declared.slices.Slice.{Slice}
 use Rattle.dm_disk_model.specs.Disk.{History as Clock}
+use Rattle.dm_disk_model.specs.Folder.{Folder, contents_of}
+use Rattle.dm_disk_model.specs.Moments.{KeepsFiles}
 use Rattle.dm_edge.specs.Wire.{Closed}
 use Rattle.dm_edge.specs.declared.fault.NetFault.{NetFault}
 use Rattle.dm_policy.specs.Cause.{reason_of_cause}
@@ -34,6 +36,7 @@ use Rattle.dm_answers.specs.Running.{RunsWith}
 use Rattle.dm_answers.specs.declared.fault.DeskFault.{DeskFault}
 use Rattle.dm_answers.specs.declared.fault.DeskFault.TheVariants as faults
 use Rattle.dm_attempt.specs.declared.ended.Ended.TheVariants as ended
+use Rattle.dm_attempt.specs.Brought.{HasAt}
 use Rattle.dm_attempt.specs.Goes.{CallGoes, DeskGoes}
 use Rattle.dm_attempt.specs.Live.{DeskOver, IsPlanned, IsSpared, IsTraced, all_entries}
 use Rattle.dm_attempt.specs.Shows.{DeskFell, NoCause, ShowsClose}
@@ -60,8 +63,8 @@ module _ {D O : Type 0} (tells : Type 0) (clock : D → Clock) (says : O → Say
     none_planned closed before n = record { saves = tt; rounds = tt; placed = tt }
 
     -- the attempt runs
-    pub begins_live : (pass : Pass) → pass ≡ pass_of item → IsDesk tells clock old → IsTrue (may_begin by item) → Recorded old new (beginning item by at) → BeginsLive tells clock says far counts old new by at pass item
-    begins_live pass pass_is desk may recorded closed before n = record {
+    pub begins_live : (pass : Pass) → pass ≡ pass_of item → IsDesk tells clock old → IsTrue (may_begin by item) → Recorded old new (beginning item by at) → (tells → KeepsFiles (clock old.disk) (clock new.disk)) → BeginsLive tells clock says far counts old new by at pass item
+    begins_live pass pass_is desk may recorded files closed before n = record {
       goes = subst (λ (h : History). DeskGoes tells clock says far counts IsPart old new h [] false) (sym (append-nil (beginning item by at))) (goes (beginning item by at) [] false recorded);
       pass_is = pass_is;
       runs = subst (λ (p : Pass). RunsWith new p.id p.attempt (IsTraced (scene_of old item by at closed before) (untold [] [] n))) (sym pass_is) (record {
@@ -74,6 +77,11 @@ module _ {D O : Type 0} (tells : Type 0) (clock : D → Clock) (says : O → Say
         is = record { item_is = refl; cover_is = refl; round_is = refl; plan_is = refl };
       });
       planned = none_planned closed before n;
+      brought = λ told content start rounds place has.
+      let made = changed_all (beginning item by at) item in
+      let kept = files told in
+      let later = kept.later in
+      subst (λ (folder : Folder). HasAt content (contents_of folder (part_name made.id.0 made.epoch.0)) place) (sym (kept.each (clock new.disk).moment later (omega arith))) (start place has);
     }
 
     -- and no more slices are saved than may be

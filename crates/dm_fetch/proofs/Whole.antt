@@ -30,7 +30,7 @@ use Rattle.dm_fetch.proofs.Fewer.{IsLanded, IsLandedRound, never_missing, parts_
 use Rattle.dm_fetch.proofs.Known.{AsksKnown, knows_behind, range_known}
 
 -- what holds of each element, by its place
-all_by : {X : Type 0} (P : X → Type 0) (xs : List X) → ((n : ℕ) (x : X) → slice_get xs n ≡ Some x → P x) → AllByRecursion P xs
+pub all_by : {X : Type 0} (P : X → Type 0) (xs : List X) → ((n : ℕ) (x : X) → slice_get xs n ≡ Some x → P x) → AllByRecursion P xs
 all_by P [] each = tt
 all_by P (x ∷ xs) each = (each 0 x refl, all_by P xs (λ n y at. each (suc n) y at))
 
@@ -95,7 +95,7 @@ single_filled : (slice : Slice) (shares : List Share) → slice.first ≡ 0 → 
 single_filled slice [] first = (_, refl, first)
 single_filled slice (share ∷ shares) first = (_, refl, first)
 
-single_cover : (start : List Slice) (n least : ℕ) (rounds : List Round) → IsSingle start → ArePlanned start None n least rounds → IsSingle (cover_of start None n least rounds)
+pub single_cover : (start : List Slice) (n least : ℕ) (rounds : List Round) → IsSingle start → ArePlanned start None n least rounds → IsSingle (cover_of start None n least rounds)
 single_cover start n least [] single planned = single
 single_cover start n least (round ∷ older) single planned =
     let was = single_cover start n least older single planned.1 in

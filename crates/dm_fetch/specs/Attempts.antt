@@ -29,7 +29,7 @@ use Rattle.dm_attempt.specs.declared.ended.Ended.{Ended}
 use Rattle.dm_attempt.specs.declared.ended.Ended.TheVariants as ended
 use Rattle.dm_attempt.specs.declared.source.Source.{Source}
 use Rattle.dm_attempt.specs.Asking.{Asking}
-use Rattle.dm_attempt.specs.Ending.{FaultEnds, IsDeskCause}
+use Rattle.dm_attempt.specs.Ending.{FaultEnds, IsDeskCause, ShownBy}
 use Rattle.dm_attempt.specs.Live.{DeskOver, LiveDesk}
 use Rattle.dm_attempt.specs.Scene.{Scene, begun_by, cover_by, item_by}
 use Rattle.dm_attempt.specs.Shows.{DeskDone, total_by}
@@ -118,22 +118,22 @@ pub record IsFinished {D O : Type 0} (tells : Type 0) (clock : D → Clock) (say
   pub over : DeskOver tells clock says far counts scene new (with_saves trace saves) (Done (total_by scene trace) digest)
 
 -- what shows a cause by which an attempt was interrupted: the desk, or the net, and then all that was landed is saved
-pub data IsMetBy {D O : Type 0} (tells : Type 0) (clock : D → Clock) (says : O → Says) (far : D → ℕ) (counts : D → DiskKind → ℕ) (net : Type 0) (scene : Scene D O) (pass : Pass) (before after : NetFault → ℕ) (trace : Trace) (saves : List (List Slice)) (cause : Cause) : Type 0 where
-  at_desk : IsDeskCause tells clock says far counts scene pass trace cause → IsMetBy tells clock says far counts net scene pass before after trace saves cause
-  at_net : MetAtNet net before after scene trace cause → SamePlaces (cover_by scene trace) (item_by scene (with_saves trace saves)).slices → IsMetBy tells clock says far counts net scene pass before after trace saves cause
+pub data IsMetBy {D O : Type 0} (came : Bool) (tells : Type 0) (clock : D → Clock) (says : O → Says) (far : D → ℕ) (counts : D → DiskKind → ℕ) (net : Type 0) (scene : Scene D O) (pass : Pass) (before after : NetFault → ℕ) (trace : Trace) (saves : List (List Slice)) (cause : Cause) : Type 0 where
+  at_desk : IsDeskCause tells clock says far counts scene pass trace cause → ShownBy came cause → IsMetBy came tells clock says far counts net scene pass before after trace saves cause
+  at_net : MetAtNet net before after scene trace cause → SamePlaces (cover_by scene trace) (item_by scene (with_saves trace saves)).slices → IsMetBy came tells clock says far counts net scene pass before after trace saves cause
 
--- The item was interrupted by a cause that the attempt met.
-pub record WasStopped {D O : Type 0} (tells : Type 0) (clock : D → Clock) (says : O → Says) (far : D → ℕ) (counts : D → DiskKind → ℕ) (net : Type 0) (scene : Scene D O) (pass : Pass) (new : View D O) (before after : NetFault → ℕ) (trace : Trace) (reason : Reason) : Type 0 where
+-- The item was interrupted by a cause that the attempt met, perhaps while what came was finished.
+pub record WasStopped {D O : Type 0} (came : Bool) (tells : Type 0) (clock : D → Clock) (says : O → Says) (far : D → ℕ) (counts : D → DiskKind → ℕ) (net : Type 0) (scene : Scene D O) (pass : Pass) (new : View D O) (before after : NetFault → ℕ) (trace : Trace) (reason : Reason) : Type 0 where
   pub cause : Cause
   pub reason_is : reason ≡ reason_of_cause cause
   pub saves : List (List Slice)
-  pub met : IsMetBy tells clock says far counts net scene pass before after trace saves cause
+  pub met : IsMetBy came tells clock says far counts net scene pass before after trace saves cause
   pub over : DeskOver tells clock says far counts scene new (with_saves trace saves) (Broken cause)
 
 -- how each answer was reached, perhaps while what came was finished
 abbrev pub EndedBy : {D O : Type 0} → Bool → Type 0 → (D → Clock) → (O → Says) → (D → ℕ) → (D → DiskKind → ℕ) → Type 0 → Scene D O → Pass → View D O → (NetFault → ℕ) → (NetFault → ℕ) → Trace → Ended → Type 0
 EndedBy came tells clock says far counts net scene pass new before after trace ended.Complete = IsFinished tells clock says far counts scene pass new trace
-EndedBy came tells clock says far counts net scene pass new before after trace (ended.Stopped reason) = WasStopped tells clock says far counts net scene pass new before after trace reason
+EndedBy came tells clock says far counts net scene pass new before after trace (ended.Stopped reason) = WasStopped came tells clock says far counts net scene pass new before after trace reason
 EndedBy came tells clock says far counts net scene pass new before after trace (ended.Fault fault) =
     FaultEnds came tells clock says far counts scene new trace (λ cause. IsDeskCause tells clock says far counts scene pass trace cause ⊎ MetAtNet net before after scene trace cause) fault
 

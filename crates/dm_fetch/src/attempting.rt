@@ -103,7 +103,7 @@ pub fn attempt<S: Desk, N: Net<O = S::O>>(
     ensures did { Attempts S.D.tells S.D.history (λ o. said_of (S.O.says o)) S.D.far S.D.faults N.tells (S.view desk.old) (S.view desk.new) (N.closed net.old) (N.closed net.new) (N.faults net.old) (N.faults net.new)
         id by slices at result }
     ensures completes { IsSmooth S.D.tells S.D.history (λ o. said_of (S.O.says o)) S.D.faults N.tells (S.view desk.old) (S.view desk.new) (N.closed net.old) (N.closed net.new) (N.faults net.old) (N.faults net.new) id by at
-        → CompletesOr S.D.tells S.D.history (λ o. said_of (S.O.says o)) S.D.far S.D.faults (S.view desk.old) (N.closed net.old) (N.faults net.old) id by at result }
+        → CompletesOr result }
     ensures stays { N.origin_of net.new ≡ N.origin_of net.old }
     ensures later { NoneFell (N.faults net.old) (N.faults net.new) }
 {

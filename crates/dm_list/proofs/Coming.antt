@@ -556,7 +556,7 @@ module _ {D O : Type 0} (tells : Type 0) (clock : D → Clock) (counts : D → D
           (subst (λ (k : Option DiskKind). IfSome k (Failed (world_of clock counts before was decided.disk) (world_of clock counts after closed between.disk))) kind_is failed)
 
       abbrev Well : Said → Type 0
-      Well said_so = EndsWell tells clock says far counts decided between was before id at said_so
+      Well said_so = EndsWell decided between id said_so
 
       said_well : EndsAs (said_by between.items.items (Brings id slices)) said → Well (said_by between.items.items (Brings id slices)) → Well said
       said_well (inl same) well = subst Well (sym same) well
@@ -576,6 +576,7 @@ module _ {D O : Type 0} (tells : Type 0) (clock : D → Clock) (counts : D → D
             desk = decided;
             ended = between;
             items = (carried_of there).value ∙ ap (λ (n : ℕ). left_by n (reverse ((found ++ opened.list) ++ doing.entries))) (ap (λ (v : Listing). v.limit) own_is.items_are ∙ run_limit doing.entries opened.items ∙ w.limit);
+            list = (own_went decided there).list_is;
             ended_items = list_here (doing.entries ++ b.brought.fetched) between.failed between.broken went;
             ended_list = went.list_is ∙ ap (λ (h : History). opened.list ++ h) (sym (more_is (doing.entries ++ b.brought.fetched) between.failed between.broken went));
             began = to_decided.moments_stay told;

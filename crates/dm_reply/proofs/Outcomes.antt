@@ -15,7 +15,7 @@ use Rattle.dm_edge.specs.declared.wanted.Wanted.TheVariants as asks
 use Rattle.dm_edge.specs.Fields.{fields_of}
 use Rattle.dm_edge.specs.Part.{part_size}
 use Rattle.dm_edge.specs.Begins.{BeginsContent, BeginsRedirect, KeepsLimit, most_content, HeadBroke, IsOfWire}
-use Rattle.dm_edge.specs.Reply.{IsFramedWhole, IsFramedFront, IsFramedShort, IsFramedBadly, IsFramedOver, HasPartSize, HasFramedEnd, IsWholeBehind, IsShortBehind, IsBadBehind, IsOverBehind, IsWhole, EndsWhole, EndsShort, ContentBroke}
+use Rattle.dm_edge.specs.Reply.{IsFramedWhole, IsFramedFront, IsFramedShort, IsFramedBadly, IsFramedOver, HasPartSize, HasFramedEnd, IsWholeBehind, IsShortBehind, IsBadBehind, IsOverBehind, IsWhole, IsFrontOfContent, EndsWhole, EndsShort, ContentBroke}
 use Rattle.dm_edge.specs.Reply.{BringsFramed}
 use Rattle.dm_head.specs.Laws.{Content, Redirect, Broke, Ninth}
 use Rattle.dm_head.proofs.Outcomes.{one_outcome}
@@ -269,15 +269,26 @@ front_at {wanted} {head} {other} {stream} {front} {rest} {told} f begins =
 plain_length : (rest bytes after front : List ℕ) → rest ≡ bytes ++ after → bytes ≡ front → length front ≤ length rest
 plain_length rest bytes after front parts is = omega (arith, ap length parts, ap length is, length-append bytes after)
 
--- a front is no longer than what is whole
+-- of two fronts the longer one begins with the other
+shorter_begins : (a b : List ℕ) → length b ≤ length a → Begins a b ⊎ Begins b a → Begins a b
+shorter_begins a b short (inl h) = h
+shorter_begins a b short (inr h) =
+    let same = same_begun b a (omega (arith, longer b a h, short)) h in
+    record { rest = []; parts = sym same ∙ sym (append-nil b) }
+
+-- what is whole begins with each front
+whole_begins : (told : Framing) (rest front content : List ℕ) → FrontAt told rest front → EndsWhole told rest content → Begins content front
+whole_begins framing.Chunked rest front content f whole =
+    brings_more f.bytes f.after front f.brings.brought [] content whole.0
+    (subst (λ (t : List ℕ). IsChunked t content whole.0) (f.parts ∙ sym (append-nil (f.bytes ++ f.after))) whole.1)
+whole_begins (framing.Counted count) rest front content f whole =
+    shorter_begins content front (omega (arith, f.brings.1, whole.2))
+    (fronts content whole.0 front f.after (sym whole.1 ∙ f.parts ∙ ap (λ t. t ++ f.after) f.brings.0))
+whole_begins framing.ToEnd rest front content f whole = record { rest = f.after; parts = sym whole ∙ f.parts ∙ ap (λ t. t ++ f.after) f.brings }
+
+-- and so no front is longer
 front_in_whole : (told : Framing) (rest front content : List ℕ) → FrontAt told rest front → EndsWhole told rest content → length front ≤ length content
-front_in_whole framing.Chunked rest front content f whole =
-    longer content front
-    (brings_more f.bytes f.after front f.brings.brought [] content whole.0
-    (subst (λ (t : List ℕ). IsChunked t content whole.0) (f.parts ∙ sym (append-nil (f.bytes ++ f.after))) whole.1))
-front_in_whole (framing.Counted count) rest front content f whole = omega (arith, f.brings.1, whole.2)
-front_in_whole framing.ToEnd rest front content f whole =
-    omega (arith, plain_length rest f.bytes f.after front f.parts f.brings, ap length whole)
+front_in_whole told rest front content f whole = longer content front (whole_begins told rest front content f whole)
 
 -- nor than what came of a short one
 front_in_short : (told : Framing) (rest front content : List ℕ) (length_told : Option ℕ) → FrontAt told rest front
@@ -288,17 +299,21 @@ front_in_short (framing.Counted count) rest front content length_told f short =
     omega (arith, plain_length rest f.bytes f.after front f.parts f.brings.0, ap length short.0)
 front_in_short framing.ToEnd rest front content length_told f short = absurd short
 
+-- one of two fronts begins with the other
+fronts_at : (told : Framing) (rest a b : List ℕ) → FrontAt told rest a → FrontAt told rest b → Begins a b ⊎ Begins b a
+fronts_at framing.Chunked rest a b x y = of_case (fronts x.bytes x.after y.bytes y.after (sym x.parts ∙ y.parts))
+  where
+    of_case : Begins x.bytes y.bytes ⊎ Begins y.bytes x.bytes → Begins a b ⊎ Begins b a
+    of_case (inl h) = inl (x.brings.all b (subst (λ (t : List ℕ). Brings t b) (sym h.parts) (brings_more y.bytes h.rest b y.brings.brought)))
+    of_case (inr h) = inr (y.brings.all a (subst (λ (t : List ℕ). Brings t a) (sym h.parts) (brings_more x.bytes h.rest a x.brings.brought)))
+fronts_at (framing.Counted count) rest a b x y =
+    fronts a x.after b y.after (ap (λ t. t ++ x.after) (sym x.brings.0) ∙ sym x.parts ∙ y.parts ∙ ap (λ t. t ++ y.after) y.brings.0)
+fronts_at framing.ToEnd rest a b x y =
+    fronts a x.after b y.after (ap (λ t. t ++ x.after) (sym x.brings) ∙ sym x.parts ∙ y.parts ∙ ap (λ t. t ++ y.after) y.brings)
+
 -- two fronts of one length are the same
 one_front_at : (told : Framing) (rest a b : List ℕ) → FrontAt told rest a → FrontAt told rest b → length a ≡ length b → a ≡ b
-one_front_at framing.Chunked rest a b x y size = of_case (fronts x.bytes x.after y.bytes y.after (sym x.parts ∙ y.parts))
-  where
-    of_case : Begins x.bytes y.bytes ⊎ Begins y.bytes x.bytes → a ≡ b
-    of_case (inl h) = same_begun a b size (x.brings.all b (subst (λ (t : List ℕ). Brings t b) (sym h.parts) (brings_more y.bytes h.rest b y.brings.brought)))
-    of_case (inr h) = sym (same_begun b a (sym size) (y.brings.all a (subst (λ (t : List ℕ). Brings t a) (sym h.parts) (brings_more x.bytes h.rest a x.brings.brought))))
-one_front_at (framing.Counted count) rest a b x y size =
-    same_front a x.after b y.after (ap (λ t. t ++ x.after) (sym x.brings.0) ∙ sym x.parts ∙ y.parts ∙ ap (λ t. t ++ y.after) y.brings.0) size
-one_front_at framing.ToEnd rest a b x y size =
-    same_front a x.after b y.after (ap (λ t. t ++ x.after) (sym x.brings) ∙ sym x.parts ∙ y.parts ∙ ap (λ t. t ++ y.after) y.brings) size
+one_front_at told rest a b x y size = same_begun a b size (shorter_begins a b (omega (arith, size)) (fronts_at told rest a b x y))
 
 -- ---- the wanted content
 
@@ -491,3 +506,32 @@ whole_alone = record {
   no_head_cause = whole_head;
   no_content_cause = whole_content;
 }
+
+-- ---- first bytes of what is whole
+
+front_begins : (wanted : Wanted) (stream content front : List ℕ) → IsWhole wanted stream content → IsFrontOfContent wanted stream front → Begins content front
+front_begins asks.Whole stream content front w f =
+    whole_begins w.all.framing w.all.rest front content (front_at f.some w.all.begins) w.all.whole
+front_begins (asks.Part first last tag known) stream content front w f =
+    let x = w.all in
+    let y = f.some in
+    let same = same_heads first last tag known stream (head_of_front first last tag known stream x.front) (head_of_front first last tag known stream y.front) in
+    let size = one_size first last tag known stream w.head f.head x.size y.size same x.has_size y.has_size in
+    shorter_begins content front (omega (arith, x.all, y.within, size))
+    (fronts_at x.front.framing (x.front.bytes ++ x.front.after) content front (front_at x.front x.front.begins) (front_at y.front x.front.begins))
+
+-- what is whole begins with first bytes of it
+pub whole_front : (wanted : Wanted) (stream content front : List ℕ) → IsWhole wanted stream content → IsFrontOfContent wanted stream front → (rest : List ℕ) × (content ≡ front ++ rest)
+whole_front wanted stream content front w f = let b = front_begins wanted stream content front w f in (b.rest, b.parts)
+
+-- and with what came of it before a cause ended the reading
+pub whole_broke : (wanted : Wanted) (stream content given : List ℕ) (broke : Cause) → IsWhole wanted stream content → ContentBroke wanted stream given broke → (rest : List ℕ) × (content ≡ given ++ rest)
+whole_broke wanted stream content given broke w met = by (whole_content wanted stream content given broke w met)
+  where
+    front : (other : Cause) → broke ≡ other → ContentBroke wanted stream given other
+    front other is = subst (λ (c : Cause). ContentBroke wanted stream given c) is met
+
+    by : IsOfWire broke ⊎ (broke ≡ cause.Memory) → (rest : List ℕ) × (content ≡ given ++ rest)
+    by (inl (inl is)) = whole_front wanted stream content given w (front cause.NetFailed is)
+    by (inl (inr is)) = whole_front wanted stream content given w (front cause.NetTimeout is)
+    by (inr is) = whole_front wanted stream content given w (front cause.Memory is)

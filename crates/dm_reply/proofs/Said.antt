@@ -16,7 +16,8 @@ use Rattle.dm_reply.specs.declared.head.Head.{Head}
 use Rattle.dm_reply.specs.declared.head.Kind.TheVariants as kind
 use Rattle.dm_reply.proofs.StreamLemmas.{content_more, front_more}
 
-front_of : (wanted : Wanted) (head : ResponseHead) (stream content : List ℕ) (size : Option ℕ) → IsSized wanted head size content
+-- what a reader gave is first bytes of what is wanted
+pub front_of : (wanted : Wanted) (head : ResponseHead) (stream content : List ℕ) (size : Option ℕ) → IsSized wanted head size content
     → IsFramedFront wanted head stream content → IsFrontOfContent wanted stream content
 front_of Whole head stream content size sized front = record { head = head; some = front }
 front_of (Part first last tag known) head stream content size sized front = record {

@@ -65,6 +65,7 @@ module _ {D O : Type 0} (tells : Type 0) (clock : D → Clock) (says : O → Say
       is = record { item_is = live.runs.is.item_is; cover_is = live.runs.is.cover_is; round_is = live.runs.is.round_is; plan_is = live.runs.is.plan_is };
     };
     planned = record { saves = tt; rounds = tt; placed = tt };
+    brought = live.brought;
   }
 
   untold_holds : (desk : View D O) (lost : List Closed) (stop : Stop) → IsOfNet stop → LiveDesk tells clock says far counts scene pass desk (untold [] [] 0) → StopHolds false tells clock says far counts scene pass desk (untold [] lost 0) stop

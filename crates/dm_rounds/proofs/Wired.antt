@@ -80,6 +80,7 @@ module _ {D O : Type 0} (tells : Type 0) (clock : D → Clock) (says : O → Say
       is = record { item_is = live.runs.is.item_is; cover_is = live.runs.is.cover_is; round_is = live.runs.is.round_is; plan_is = live.runs.is.plan_is };
     };
     planned = planned_wired round wires older live.planned;
+    brought = live.brought;
   }
 
   over_wired : (round : Round) (wires : List Carried) (older : Trace) (desk : View D O) (close : Close) → DeskOver tells clock says far counts scene desk (opened older round) close
@@ -154,6 +155,7 @@ module _ {D O : Type 0} (tells : Type 0) (clock : D → Clock) (says : O → Say
     cause = holds.cause;
     reason_is = holds.reason_is;
     met = cause_wired round wires older pass holds.cause holds.met;
+    asked = holds.asked;
     saves = holds.saves;
     over = over_wired round wires (with_saves older holds.saves) desk (Broken holds.cause) holds.over;
   }

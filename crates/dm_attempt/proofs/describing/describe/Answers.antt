@@ -12,7 +12,7 @@ returns-in-Ok-Named-clause-goes g c scene led lost count head address live none 
     let view = g.S.Desk.view in
     was_named D.tells D.history (λ o. said_of (g.S.O.Origin.says o)) D.far D.faults scene c.args.pass.now (view c.args.desk.now) (view c.describe.new.self)
     (record { keeps = c.describe.ensures.keeps; near = c.describe.ensures.far; later = c.describe.ensures.cause.later; beside = c.describe.ensures.beside })
-    led lost count head c.args.told address none at live (rw c.in-Ok-Named.field-0-is at c.in-Ok-Named.ensures.answers).1
+    led lost count head c.args.told address none at live c.describe.ensures.was (rw c.in-Ok-Named.field-0-is at c.in-Ok-Named.ensures.answers).1
 
 pub returns-in-Ok-AllTaken-clause-goes : goal.returns-in-Ok-AllTaken-clause-goes
 returns-in-Ok-AllTaken-clause-goes g c scene led lost count head address live none at =

@@ -11,7 +11,7 @@ returns-in-Fault g c = record {
   goes = λ scene trace came holds. let D = g.S.D.Disk in
       let leaves = rw c.in-Fault.is at holds in
       fault_ends D.tells D.history (λ o. said_of (g.S.O.Origin.says o)) D.far D.faults scene c.args.pass.now came came (λ t. t) (g.S.Desk.view c.args.desk.now) trace
-      (λ cause. IsCauseOf D.tells D.history (λ o. said_of (g.S.O.Origin.says o)) D.far D.faults scene c.args.pass.now trace c.args.stop cause) c.in-Fault.fault leaves;
+      (λ cause. IsCauseOf came D.tells D.history (λ o. said_of (g.S.O.Origin.says o)) D.far D.faults scene c.args.pass.now trace c.args.stop cause) c.in-Fault.fault leaves;
 }
 
 pub returns-in-Recorded : goal.returns-in-Recorded

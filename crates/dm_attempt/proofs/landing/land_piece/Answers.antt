@@ -3,6 +3,7 @@ use Rattle.std.specs.Result.{OnOk}
 use Rattle.dm_store.specs.Origin.{said_of}
 use Rattle.dm_store.specs.View.{View}
 use Rattle.dm_answers.specs.Land.{LandAnswers}
+use Rattle.dm_answers.specs.Reads.{HasPiece, PartReads}
 use Rattle.dm_answers.specs.declared.answer.SlicePass.{SlicePass}
 use Rattle.dm_attempt.specs.Live.{LiveDesk}
 use Rattle.dm_attempt.specs.Trace.{opened}
@@ -18,7 +19,8 @@ returns-in-Ok-clause-goes g c scene older round live next turn_is =
     let answers = subst (λ (s : SlicePass). LandAnswers D.faults (view c.args.desk.now) (view c.land.new.self) s c.args.at c.args.piece.now (Ok tt)) c.slice_of.ensures c.in-Ok.ensures.answers in (
       older.saves,
       live_landed D.tells D.history (λ o. said_of (g.S.O.Origin.says o)) D.far D.faults scene c.args.going.now.pass (view c.args.desk.now) (view c.land.new.self)
-          (record { keeps = c.land.ensures.keeps; near = c.land.ensures.far; later = c.land.ensures.cause.later; beside = c.land.ensures.beside }) older round c.args.part.now c.args.at c.args.piece.now live next answers.1,
+          (record { keeps = c.land.ensures.keeps; near = c.land.ensures.far; later = c.land.ensures.cause.later; beside = c.land.ensures.beside }) c.land.ensures.was older round c.args.part.now c.args.at c.args.piece.now live next answers.1
+          (λ told. subst (λ (s : SlicePass). PartReads D.history (view c.args.desk.now) (view c.land.new.self) s.id (HasPiece c.args.at c.args.piece.now)) c.slice_of.ensures (c.in-Ok.ensures.reads told)),
     )
 
 pub returns-in-Ok-clause-limits : goal.returns-in-Ok-clause-limits

@@ -15,7 +15,7 @@ returns-in-Ok-clause-goes g c scene trace live =
     let D = g.S.D.Disk in
     let view = g.S.Desk.view in
     live_saved D.tells D.history (λ o. said_of (g.S.O.Origin.says o)) D.far D.faults scene c.args.pass.now (view c.args.desk.now) (view c.checkpoint.new.self)
-    (record { keeps = c.checkpoint.ensures.keeps; near = c.checkpoint.ensures.far; later = c.checkpoint.ensures.cause.later; beside = c.checkpoint.ensures.beside }) trace live c.in-Ok.ensures.answers
+    (record { keeps = c.checkpoint.ensures.keeps; near = c.checkpoint.ensures.far; later = c.checkpoint.ensures.cause.later; beside = c.checkpoint.ensures.beside }) trace live c.in-Ok.ensures.answers c.checkpoint.ensures.reads
 
 pub returns-in-Ok-clause-none : goal.returns-in-Ok-clause-none
 returns-in-Ok-clause-none g c = saved_none (g.S.Desk.view c.args.desk.now) (g.S.Desk.view c.checkpoint.new.self) c.args.pass.now c.in-Ok.ensures.answers

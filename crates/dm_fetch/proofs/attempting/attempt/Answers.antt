@@ -1,4 +1,4 @@
-use Rattle.std.proofs.Common.{inl, inr, refl}
+use Rattle.std.proofs.Common.{inr, refl}
 use Rattle.dm_store.specs.Origin.{said_of}
 use Rattle.dm_fetch.proofs.Smooth.{completes_or}
 use Rattle.dm_fetch.proofs.attempting.attempt.Goals as goal
@@ -12,4 +12,4 @@ returns-clause-completes g c smooth =
     (N.faults c.args.net.now) (N.faults c.attempt_with-ended.new.net) c.args.id c.args.by c.args.slices c.args.at g.met.S.D.Disk.sound c.requires.some smooth c.attempt_with-ended.result c.attempt_with-ended.ensures.did
 
 pub returns-in-Err-clause-completes : goal.returns-in-Err-clause-completes
-returns-in-Err-clause-completes g c smooth = inr (inl refl)
+returns-in-Err-clause-completes g c smooth = inr refl

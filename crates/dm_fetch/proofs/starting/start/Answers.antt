@@ -25,7 +25,7 @@ returns-in-Ok-Fresh-clause-leaves g c =
         none = found.is.0.untold;
         live = begins_live D.tells D.history (λ o. said_of (g.S.O.Origin.says o)) D.far D.faults old new
             (record { keeps = c.begin.ensures.keeps; near = c.begin.ensures.far; later = c.begin.ensures.cause.later; beside = λ t. besides_same IsPart (D.history old.disk) (D.history new.disk) (c.begin.ensures.beside t) })
-            c.args.id c.args.by c.args.at found.item found.there c.in-Ok-Fresh.pass found.is.0.pass_is c.begin.ensures.was found.is.0.may found.is.1;
+            c.args.id c.args.by c.args.at found.item found.there c.in-Ok-Fresh.pass found.is.0.pass_is c.begin.ensures.was found.is.0.may found.is.1 c.begin.ensures.beside;
       };
     }
 
@@ -44,7 +44,7 @@ returns-in-Ok-Continue-clause-leaves g c =
     let found = rw c.in-Ok-Continue.field-0-is at c.in-Ok-Continue.ensures.answers in
     let call : CallGoes D.tells D.history (λ o. said_of (g.S.O.Origin.says o)) D.far D.faults IsPart old new = record { keeps = c.begin.ensures.keeps; near = c.begin.ensures.far; later = c.begin.ensures.cause.later; beside = λ t. besides_same IsPart (D.history old.disk) (D.history new.disk) (c.begin.ensures.beside t) } in
     let live = begins_live D.tells D.history (λ o. said_of (g.S.O.Origin.says o)) D.far D.faults old new call
-    c.args.id c.args.by c.args.at found.item found.there c.in-Ok-Continue.pass found.is.1.pass_is c.begin.ensures.was found.is.0.may found.is.2 in
+    c.args.id c.args.by c.args.at found.item found.there c.in-Ok-Continue.pass found.is.1.pass_is c.begin.ensures.was found.is.0.may found.is.2 c.begin.ensures.beside in
     record {
       item = found.item;
       there = found.there;
