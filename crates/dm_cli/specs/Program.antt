@@ -13,7 +13,7 @@ HasRehearsal words number = Asks words (Rehearses number)
 
 -- the words ask for no rehearsal
 abbrev pub AsksNoRehearsal : List (List ℕ) → Type 0
-AsksNoRehearsal words = (number : ℕ) → HasRehearsal words number → ⊥
+AsksNoRehearsal words = (number : ℕ) → ¬ HasRehearsal words number
 
 -- the words ask for no import
 abbrev pub AsksNoImport : List (List ℕ) → Type 0
