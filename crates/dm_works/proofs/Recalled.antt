@@ -47,7 +47,7 @@ use Rattle.dm_service.specs.declared.task.Task.TheVariants as tasks
 use Rattle.dm_works.specs.Answering.{Answered, Gives}
 use Rattle.dm_works.specs.Answering as listed
 use Rattle.dm_works.specs.Deciding.{DidAll, seen_of}
-use Rattle.dm_works.specs.Serving.{AnswersAsked, AnswersOn, AnswersTask, Does, HasBegun, RowsStay, Service, TaskAnswers, WasCut}
+use Rattle.dm_works.specs.Serving.{AnswersAsked, AnswersTask, Does, RowsStay, Service, TaskAnswers, WasCut}
 use Rattle.dm_works.specs.Serving as serving
 use Rattle.dm_works.specs.Troubles.{keeper_trouble}
 use Rattle.dm_works.proofs.Replying.{gives, only_told}
@@ -96,8 +96,12 @@ none_first stay rows = refl
 none_first (puts more) rows = refl
 none_first (drops id) rows = refl
 
-none_begun : (change : Change) (rows rows' : List Row) → rows' ≡ rows → HasBegun change rows rows'
-none_begun change rows rows' same = record { steps = 0; is = same ∙ sym (none_first change rows) }
+none_begun : (change : Change) (rows rows' : List Row) → rows' ≡ rows → IsBegun rows rows' change []
+none_begun change rows rows' same = record { steps = 0; steps_are = inl refl; rows_are = same ∙ sym (none_first change rows) }
+
+-- no row is changed
+stay_begun : (change : Change) (there : History) (rows rows' : List Row) → change ≡ stay → rows' ≡ rows → IsBegun rows rows' change there
+stay_begun change there rows rows' stays same = record { steps = length there; steps_are = inl refl; rows_are = same ∙ sym (ap (λ (c : Change). changed_rows (first_of (length there) c) rows) stays) }
 
 module _ {D O : Type 0} (told : Type 0) (counts : D → DiskKind → ℕ) (old new : Service D O) where
   -- nothing was done of it
@@ -107,14 +111,15 @@ module _ {D O : Type 0} (told : Type 0) (counts : D → DiskKind → ℕ) (old n
     rest = doing.entries;
     entries_are = refl;
     there = inr (refl, same);
-    begun = λ knows. record { steps = 0; steps_are = inl refl; rows_are = rest knows ∙ sym (none_first doing.change old.past.rows) };
+    begun = λ knows. none_begun doing.change old.past.rows new.past.rows (rest knows);
   }
 
   -- the list answered, and the rows are as before
   pub by_list : (doing : Api) (result : Result ApiReply NoMemory) → doing.change ≡ stay → RowsStay told old new → Answered counts doing old.desk new.desk result → Does told counts doing old new result
   by_list doing result stays rest (listed.did whole there reply) = serving.did whole there (λ knows. rest knows ∙ sym (ap (λ (c : Change). changed_rows c old.past.rows) stays)) reply
   by_list doing result stays rest (listed.broken refused reply) = serving.broken refused (λ knows. none_begun doing.change old.past.rows new.past.rows (rest knows)) reply
-  by_list doing result stays rest (listed.fell kind rose failed reply) = serving.fell kind rose failed (λ knows. none_begun doing.change old.past.rows new.past.rows (rest knows)) reply
+  by_list doing result stays rest (listed.fell kind rose (inl failed) reply) = serving.fell kind rose (inl (failed, λ knows. stay_begun doing.change failed.recorded old.past.rows new.past.rows stays (rest knows))) reply
+  by_list doing result stays rest (listed.fell kind rose (inr spoiled) reply) = serving.fell kind rose (inr (spoiled, rest)) reply
   by_list doing result stays rest (listed.wanted same reply) = serving.wanted (none_done doing same rest) reply
 
   module _ (at : ℕ) (result : Result ApiReply NoMemory) where
@@ -230,11 +235,11 @@ module _ {D O : Type 0} (told : Type 0) (counts : D → DiskKind → ℕ) (old n
     pub for_task : (task other : Task) → task ≡ other → AnswersTask told counts old other at result new → AnswersTask told counts old task at result new
     for_task task other is answers = subst (λ (t : Task). AnswersTask told counts old t at result new) (sym is) answers
 
-    pub call_answered : (request : ApiRequest) (call : Call) (task : Task) → asked request ≡ Ok call → task ≡ task_by call → AnswersTask told counts old task at result new → AnswersOn told counts old request at result new
+    pub call_answered : (request : ApiRequest) (call : Call) (task : Task) → asked request ≡ Ok call → task ≡ task_by call → AnswersTask told counts old task at result new → AnswersAsked told counts old (asked request) at result new
     call_answered request call task is task_is answers =
         subst (λ (a : Result Call Refusal). AnswersAsked told counts old a at result new) (sym is) (subst (λ (t : Task). AnswersTask told counts old t at result new) task_is answers)
 
-    pub call_refused : (request : ApiRequest) (refusal : Refusal) → new ≡ old → asked request ≡ Err refusal → IfOk result (λ reply. reply ≡ trouble_of (troubles.Refused refusal)) → AnswersOn told counts old request at result new
+    pub call_refused : (request : ApiRequest) (refusal : Refusal) → new ≡ old → asked request ≡ Err refusal → IfOk result (λ reply. reply ≡ trouble_of (troubles.Refused refusal)) → AnswersAsked told counts old (asked request) at result new
     call_refused request refusal same is replied =
         subst (λ (a : Result Call Refusal). AnswersAsked told counts old a at result new) (sym is) (
           serving.did (λ changes. absurd (false≢true changes)) (inr (refl, ap (λ (s : Service D O). s.desk) same)) (λ knows. ap (λ (s : Service D O). s.past.rows) same) (gives (trouble_of (troubles.Refused refusal)) result replied),
@@ -242,7 +247,7 @@ module _ {D O : Type 0} (told : Type 0) (counts : D → DiskKind → ℕ) (old n
         )
 
     -- memory was wanting before it was known what is asked
-    pub call_wanted : (request : ApiRequest) → new ≡ old → result ≡ Err (record {}) → AnswersOn told counts old request at result new
+    pub call_wanted : (request : ApiRequest) → new ≡ old → result ≡ Err (record {}) → AnswersAsked told counts old (asked request) at result new
     call_wanted request same none = by_asked (asked request)
       where
         desk_same : new.desk ≡ old.desk
@@ -259,7 +264,7 @@ module _ {D O : Type 0} (told : Type 0) (counts : D → DiskKind → ℕ) (old n
         by_asked (Err refusal) = (serving.wanted (none_done (api_refused refusal) desk_same rows_same) (inr none), later)
 
     -- Over a history that tells its rows it is what the request does, or the first steps of it.
-    pub as_told : told → (request : ApiRequest) → AnswersOn told counts old request at result new → Does told counts (api (seen_of old.desk at) old.past.rows request) old new result
+    pub as_told : told → (request : ApiRequest) → AnswersAsked told counts old (asked request) at result new → Does told counts (api (seen_of old.desk at) old.past.rows request) old new result
     as_told knows request answers = by_asked (asked request) answers
       where
         by_task : (task : Task) → TaskAnswers told counts old task at result new → Does told counts (api_task (seen_of old.desk at) (recall_of old.desk.items.items old.past.rows task) task) old new result
