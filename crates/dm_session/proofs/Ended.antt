@@ -47,12 +47,12 @@ opening_shows before after (opens.NoMemory disk) result is cause = tt
 no_damage : (start end : Clock) (said : Said) (verdict : Verdict) → said ≡ only verdict → ShowsDamage start end verdict → ShowsDamage start end said.verdict
 no_damage start end said verdict is shows = subst (λ (s : Said). ShowsDamage start end s.verdict) (sym is) shows
 
-module _ {D O : Type 0} (tells conns_tell knows accept_failed : Type 0) (clock : D → Clock) (counts : D → DiskKind → ℕ) (far : D → ℕ) (says : O → Says) (origin : O) (at : ℕ) (start : D) (said : Said) (past : Past) (line : Line) (requests : ℕ) where
+module _ {D O : Type 0} (tells conns_tell knows : Type 0) (moment : ℕ → Type 0) (accept_failed : Type 0) (clock : D → Clock) (counts : D → DiskKind → ℕ) (far : D → ℕ) (says : O → Says) (origin : O) (at : ℕ) (start : D) (said : Said) (past : Past) (line : Line) (requests : ℕ) where
   abbrev before : World
   before = world_of clock counts start
 
   abbrev RanTo : D → Type 0
-  RanTo end = ServeRuns (record { disk = tells; conns = conns_tell; past = knows; accept_failed = accept_failed }) counts says origin at before (world_of clock counts end) past past (far start) (far end) line line requests said
+  RanTo end = ServeRuns (record { disk = tells; conns = conns_tell; past = knows; moment = moment; accept_failed = accept_failed }) clock counts says origin at before (world_of clock counts end) past past (far start) (far end) line line requests said
 
   module _ (end : D) (fell : NoneFell (counts start) (counts end)) (beside : tells → Besides (IsSettledName clock start) (clock start) (clock end)) where
     abbrev after : World

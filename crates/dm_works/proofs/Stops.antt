@@ -40,7 +40,7 @@ use Rattle.dm_works.specs.Showing.{DropsNone, ShowsAsked, ShowsSome, ShowsSomeNo
 -- what holds at every stop, and what follows of it
 each_weaker : (P Q : DiskState → List Row → Type 0) (leads : (disk : DiskState) (rows : List Row) → P disk rows → Q disk rows) (start : Clock) (first : List Row) (present : Clock) (rows : List Row) → EachStop P start first present rows → EachStop Q start first present rows
 each_weaker P Q leads start first present rows (begins here) = begins (leads (now start) first here)
-each_weaker P Q leads start first present rows (disk_goes_on before next same so_far moments) =
+each_weaker P Q leads start first present rows (disk_goes_on before next stayed so_far moments) =
     disk_goes_on before present rows (each_weaker P Q leads start first before rows so_far) (weaker before present (λ disk. P disk rows) (λ disk. Q disk rows) (λ disk is. leads disk rows is) moments)
 each_weaker P Q leads start first present rows (rows_change stays earlier next so_far here) =
     rows_change present earlier rows (each_weaker P Q leads start first present earlier so_far) (leads (now present) rows here)

@@ -29,7 +29,7 @@ returns-in-Err-Refused-clause-answers g c =
       answers = call_refused K.tells g.D.Disk.faults (service_of K.rows K.faults c.args.desk.now c.args.keeper.now) (service_of K.rows K.faults c.args.desk.now c.args.keeper.now) c.args.now c.trouble_reply.result c.args.request.now c.in-Err-Refused.refusal refl
           (subst (Refuses (asked c.args.request.now)) c.in-Err-Refused.field-0-is c.in-Err-Refused.ensures.err) c.trouble_reply.ensures;
       keeps = keeps_same g.D.Disk.tells g.D.Disk.history (λ o. said_of (g.O.Origin.says o)) c.args.desk.now c.args.desk.now refl;
-      shows = none_asked g.D.Disk.tells K.tells g.D.Disk.history (λ o. said_of (g.O.Origin.says o)) (service_of K.rows K.faults c.args.desk.now c.args.keeper.now) (service_of K.rows K.faults c.args.desk.now c.args.keeper.now) c.args.request.now c.items.ensures.kept c.rows_rise.ensures.rising refl;
+      shows = none_asked g.D.Disk.tells K.tells g.D.Disk.history (λ o. said_of (g.O.Origin.says o)) (service_of K.rows K.faults c.args.desk.now c.args.keeper.now) (service_of K.rows K.faults c.args.desk.now c.args.keeper.now) c.args.request.now c.items-items.ensures.kept c.rows_rise.ensures.rising refl;
     }
 
 pub returns-in-Err-Refused-clause-steps : goal.returns-in-Err-Refused-clause-steps
@@ -41,7 +41,7 @@ returns-in-Err-NoMemory-clause-answers g c =
     record {
       answers = call_wanted K.tells g.D.Disk.faults (service_of K.rows K.faults c.args.desk.now c.args.keeper.now) (service_of K.rows K.faults c.args.desk.now c.args.keeper.now) c.args.now (Err (record {})) c.args.request.now refl refl;
       keeps = keeps_same g.D.Disk.tells g.D.Disk.history (λ o. said_of (g.O.Origin.says o)) c.args.desk.now c.args.desk.now refl;
-      shows = none_asked g.D.Disk.tells K.tells g.D.Disk.history (λ o. said_of (g.O.Origin.says o)) (service_of K.rows K.faults c.args.desk.now c.args.keeper.now) (service_of K.rows K.faults c.args.desk.now c.args.keeper.now) c.args.request.now c.items.ensures.kept c.rows_rise.ensures.rising refl;
+      shows = none_asked g.D.Disk.tells K.tells g.D.Disk.history (λ o. said_of (g.O.Origin.says o)) (service_of K.rows K.faults c.args.desk.now c.args.keeper.now) (service_of K.rows K.faults c.args.desk.now c.args.keeper.now) c.args.request.now c.items-items.ensures.kept c.rows_rise.ensures.rising refl;
     }
 
 pub returns-in-Err-NoMemory-clause-steps : goal.returns-in-Err-NoMemory-clause-steps
