@@ -1,5 +1,5 @@
 -- Items that were moved to the history, as a request is answered.
-use Rattle.std.proofs.Common.{◌≡◌, ◌⊎◌, inl, inr, ℕ, ◌+◌, Bool, true, false, List, [], ◌∷◌, ◌++◌, length, map, take, Result, Ok, Err, refl, sym, ◌∙◌, ap, subst, append_assoc, length-append}
+use Rattle.std.proofs.Common.{◌≡◌, ◌⊎◌, inl, inr, ℕ, ◌+◌, true, false, List, [], ◌∷◌, ◌++◌, length, map, take, Result, Ok, Err, refl, sym, ◌∙◌, ap, subst, append_assoc, length-append}
 use Rattle.std.specs.Prelude.{IfOk, IsTrue}
 use Rattle.std.proofs.lemmas.Bool.{false≢true}
 use Rattle.std.proofs.lemmas.List.{length-map, map-append, take-map}
@@ -30,7 +30,6 @@ use Rattle.dm_service.specs.Api.{Api, api_archive, is_any}
 use Rattle.dm_service.specs.Recalls.{unasked}
 use Rattle.dm_service.specs.Replies.{archived_by}
 use Rattle.dm_service.specs.declared.task.Task.TheVariants as tasks
-use Rattle.dm_works.specs.Answering.{Gives}
 use Rattle.dm_works.specs.Deciding.{DidAll, seen_of}
 use Rattle.dm_works.specs.Moving.{Moved, fell, recorded, same}
 use Rattle.dm_works.specs.Serving.{AnswersTask, Does, Service, WasCut}

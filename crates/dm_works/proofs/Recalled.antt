@@ -1,17 +1,14 @@
 -- What was answered of a list and a history.
-use Rattle.std.proofs.Common.{◌≡◌, inl, inr, ℕ, ◌+◌, Bool, true, false, List, [], ◌∷◌, ◌++◌, length, map, Option, Some, None, Result, Ok, Err, refl, sym, ◌∙◌, ap, subst, append_assoc, arith}
+use Rattle.std.proofs.Common.{◌≡◌, inl, inr, ℕ, Bool, true, false, List, [], ◌∷◌, length, Option, Some, None, Result, Ok, Err, refl, sym, ◌∙◌, ap, subst, arith}
 use Rattle.std.specs.Prelude.{IfOk, IsTrue, is_none}
 use Rattle.std.specs.List.{All}
 use Rattle.std.proofs.lemmas.Bool.{false≢true}
-use Rattle.std.proofs.lemmas.List.{append-nil}
 use Rattle.dm_types.specs.Faults.{HasCause, NoneFell}
-use Rattle.dm_types.specs.declared.item.Item.{Item}
 use Rattle.dm_types.specs.declared.item.ItemId.{ItemId}
 use Rattle.dm_types.specs.declared.kinds.DiskKind.{DiskKind}
 use Rattle.dm_types.specs.declared.memory.NoMemory.{NoMemory}
 use Rattle.dm_item.specs.Lawful.{History}
 use Rattle.dm_item.specs.Listing.{Listing}
-use Rattle.dm_store.specs.View.{View}
 use Rattle.dm_answers.specs.declared.order.Order.{Order}
 use Rattle.dm_does.specs.declared.job.Job.TheVariants as jobs
 use Rattle.dm_hist.specs.Faults.{keeper_kind}
@@ -28,7 +25,7 @@ use Rattle.dm_shown.specs.declared.named.Named.{Named}
 use Rattle.dm_shown.specs.declared.named.Named.TheVariants as names
 use Rattle.dm_past.specs.ByRows.{FindsFree, IsFree}
 use Rattle.dm_past.specs.Coming.{IsBegun, first_of}
-use Rattle.dm_past.specs.Past.{HasFailed, Past}
+use Rattle.dm_past.specs.Past.{Past}
 use Rattle.dm_past.proofs.Answered.{free_by, row_found}
 use Rattle.dm_call.specs.Asked.{asked}
 use Rattle.dm_call.specs.declared.call.Call.{Call}
@@ -38,7 +35,7 @@ use Rattle.dm_call.specs.declared.request.ApiRequest.{ApiRequest}
 use Rattle.dm_response.specs.Reply.{trouble_of}
 use Rattle.dm_response.specs.declared.reply.ApiReply.{ApiReply}
 use Rattle.dm_response.specs.declared.trouble.Trouble.TheVariants as troubles
-use Rattle.dm_service.specs.Api.{Api, api, api_add, api_asked, api_drop, api_of, api_refused, api_remove, api_task, does_now, tells}
+use Rattle.dm_service.specs.Api.{Api, api, api_add, api_asked, api_of, api_refused, api_remove, api_task, does_now}
 use Rattle.dm_service.specs.Recalls.{IsUnlisted, Recall, Recalls, by_id, by_word, id_recall, is_asked, is_free, is_gone, page, recall_of, unasked, word_recall}
 use Rattle.dm_service.specs.Replies.{removed_reply, row_by, rows_by}
 use Rattle.dm_service.specs.Tasks.{task_by}
@@ -46,11 +43,11 @@ use Rattle.dm_service.specs.declared.task.Task.{Task}
 use Rattle.dm_service.specs.declared.task.Task.TheVariants as tasks
 use Rattle.dm_works.specs.Answering.{Answered, Gives}
 use Rattle.dm_works.specs.Answering as listed
-use Rattle.dm_works.specs.Deciding.{DidAll, seen_of}
+use Rattle.dm_works.specs.Deciding.{seen_of}
 use Rattle.dm_works.specs.Serving.{AnswersAsked, AnswersTask, Does, RowsStay, Service, TaskAnswers, WasCut}
 use Rattle.dm_works.specs.Serving as serving
 use Rattle.dm_works.specs.Troubles.{keeper_trouble}
-use Rattle.dm_works.proofs.Replying.{gives, only_told}
+use Rattle.dm_works.proofs.Replying.{gives}
 
 none_of : {T : Type 0} (found : Option T) → is_none found ≡ true → found ≡ None
 none_of None is = refl

@@ -8,7 +8,7 @@ use Rattle.dm_store.specs.Becomes.{Fell}
 use Rattle.dm_store.specs.View.{View}
 use Rattle.dm_hist.specs.declared.keeper.KeeperFault.{KeeperFault}
 use Rattle.dm_hist.specs.declared.row.Row.{Row}
-use Rattle.dm_archive.specs.Doing.{Change, changed_rows}
+use Rattle.dm_archive.specs.Doing.{changed_rows}
 use Rattle.dm_past.specs.Coming.{IsBegun}
 use Rattle.dm_past.specs.Past.{HasFailed, Past, past_of}
 use Rattle.dm_call.specs.declared.call.Call.{Call}

@@ -1,4 +1,4 @@
-use Rattle.std.proofs.Common.{arith, refl}
+use Rattle.std.proofs.Common.{refl}
 use Rattle.dm_store.specs.Origin.{said_of}
 use Rattle.dm_service.specs.Replies.{page_by, report_by, stop_by}
 use Rattle.dm_service.specs.declared.task.Task.TheVariants as tasks
