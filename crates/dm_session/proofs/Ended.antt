@@ -1,16 +1,15 @@
 -- What a session leaves whose list couldn't be opened.
-use Rattle.std.proofs.Common.{◌≡◌, ◌⊎◌, inl, inr, ℕ, true, false, List, [], ◌++◌, Result, Err, refl, sym, ap, ◌∙◌, subst, arith}
+use Rattle.std.proofs.Common.{◌≡◌, inl, inr, ℕ, true, false, ◌++◌, Result, Err, refl, sym, subst, arith}
 use Rattle.dm_types.specs.Faults.{HasCause, NoneFell, Rose}
 use Rattle.dm_types.specs.Limits.{most_items}
 use Rattle.dm_types.specs.declared.kinds.DiskKind.{DiskKind}
 use Rattle.dm_disk_model.specs.Beside.{Besides}
-use Rattle.dm_disk_model.specs.Disk.{DiskState, History as Clock, now}
+use Rattle.dm_disk_model.specs.Disk.{History as Clock, now}
 use Rattle.dm_disk_model.proofs.Beside.{besides_same}
 use Rattle.dm_disk_model.proofs.Reaching.{at_end, weaker}
-use Rattle.dm_item.specs.Lawful.{History}
 use Rattle.dm_kept.specs.Files.{Says, says_all}
-use Rattle.dm_kept.specs.Kept.{Kept, WasKept}
-use Rattle.dm_kept.specs.Recovery.{Found, Through}
+use Rattle.dm_kept.specs.Kept.{Kept}
+use Rattle.dm_kept.specs.Recovery.{Through}
 use Rattle.dm_kept.proofs.Resting.{kept_any}
 use Rattle.dm_open.specs.Refused.{IsHindered, NoneRead, OpenRefuses}
 use Rattle.dm_open.proofs.Unread.{none_read_leaves}
@@ -28,7 +27,7 @@ use Rattle.dm_does.specs.Log.{Unread, Unopened}
 use Rattle.dm_does.specs.World.{IsLater, World}
 use Rattle.dm_does.proofs.Touching.{opening_touches}
 use Rattle.dm_past.specs.Past.{Past}
-use Rattle.dm_session.specs.Explaining.{Outside, ServeRuns, world_of}
+use Rattle.dm_session.specs.Explaining.{ServeRuns, world_of}
 use Rattle.dm_session.specs.Refusing.{SaysRefusal}
 use Rattle.dm_session.specs.Serving.{Line}
 

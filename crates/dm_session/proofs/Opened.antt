@@ -1,5 +1,5 @@
 -- What a session leaves whose list was opened.
-use Rattle.std.proofs.Common.{◌≡◌, ◌⊎◌, inl, inr, ℕ, ◌+◌, Bool, true, false, List, [], ◌∷◌, ◌++◌, drop, length, Result, Ok, Err, refl, sym, ◌∙◌, ap, subst, append_assoc, arith}
+use Rattle.std.proofs.Common.{◌≡◌, inl, ℕ, ◌+◌, Bool, true, false, [], ◌∷◌, ◌++◌, drop, length, Ok, Err, refl, sym, ◌∙◌, ap, subst, append_assoc, arith}
 use Rattle.std.proofs.lemmas.List.{append-nil}
 use Rattle.std.proofs.Math.Seq.{drop-append_seam}
 use Rattle.dm_types.specs.Faults.{NoneFell}
@@ -8,16 +8,14 @@ use Rattle.dm_types.specs.Name.{IsPart}
 use Rattle.dm_types.specs.declared.entry.Entry.{Entry}
 use Rattle.dm_types.specs.declared.kinds.DiskKind.{DiskKind}
 use Rattle.dm_disk_model.specs.Beside.{Besides}
-use Rattle.dm_disk_model.specs.Disk.{DiskState, History as Clock, now}
+use Rattle.dm_disk_model.specs.Disk.{DiskState, History as Clock}
 use Rattle.dm_disk_model.specs.Moments.{Throughout}
 use Rattle.dm_disk_model.proofs.Beside.{besides_more, besides_then}
 use Rattle.dm_disk_model.proofs.Reaching.{joined, weaker}
 use Rattle.dm_item.specs.Lawful.{History, IsLawful, IsOf}
-use Rattle.dm_item.specs.Listing.{Listing, applied}
+use Rattle.dm_item.specs.Listing.{applied}
 use Rattle.dm_item.proofs.Histories.{keeps_step}
 use Rattle.dm_kept.specs.Files.{Says}
-use Rattle.dm_kept.specs.Kept.{Kept}
-use Rattle.dm_kept.specs.Recovery.{Through}
 use Rattle.dm_kept.specs.Room.{IsTaken}
 use Rattle.dm_open.specs.Refused.{RunsOn}
 use Rattle.dm_open.proofs.Opened.{front_more}
@@ -26,12 +24,12 @@ use Rattle.dm_store.specs.Becomes.{Becomes, Recorded}
 use Rattle.dm_store.specs.Keeps.{Goes, HoldsOf, Keeps, added}
 use Rattle.dm_store.specs.View.{View, spelled}
 use Rattle.dm_store.proofs.Composing.{spelled_then}
-use Rattle.dm_answers.specs.Opening.{IsNear, IsOpened, IsTried}
+use Rattle.dm_answers.specs.Opening.{IsNear, IsOpened}
 use Rattle.dm_answers.specs.Reads.{IsSettledName}
 use Rattle.dm_answers.specs.Shut.{ShutAnswers}
 use Rattle.dm_answers.specs.declared.fault.DeskFault.{DeskFault}
 use Rattle.dm_answers.specs.declared.fault.DeskFault.TheVariants as faults
-use Rattle.dm_does.specs.Leaving.{IsTouched, KeepsAll, Leaves, ShowsDamage}
+use Rattle.dm_does.specs.Leaving.{IsTouched, Leaves, ShowsDamage}
 use Rattle.dm_does.specs.Log.{ArePlain, Log, Opened, tried_of}
 use Rattle.dm_does.specs.Session.{IsSession, log_of}
 use Rattle.dm_does.specs.World.{IsLater, World}
@@ -41,9 +39,9 @@ use Rattle.dm_does.proofs.Touching.{opening_touches}
 use Rattle.dm_past.specs.Past.{Past}
 use Rattle.dm_works.specs.Moving.{Moved, Steps, fell, recorded, same}
 use Rattle.dm_works.specs.Serving.{both}
-use Rattle.dm_session.specs.Explaining.{Outside, ServeRuns, world_of}
+use Rattle.dm_session.specs.Explaining.{ServeRuns, world_of}
 use Rattle.dm_session.specs.Looping.{ClosesSo, ShutsSo}
-use Rattle.dm_session.specs.Serving.{AnswersAt, Line, ServesList, by_broken, said_at_end}
+use Rattle.dm_session.specs.Serving.{AnswersAt, Line, by_broken, said_at_end}
 use Rattle.dm_session.specs.declared.turning.Closed.{Closed}
 use Rattle.dm_session.specs.declared.turning.Closed.TheVariants as closes
 

@@ -1,7 +1,6 @@
 -- Connections, one behind another.
-use Rattle.std.proofs.Common.{◌≡◌, ◌⊎◌, inl, inr, ℕ, ◌+◌, ◌-◌, ◌<◌, ◌≤◌, ◌^◌, Bool, true, false, List, [], ◌∷◌, ◌++◌, length, map, take, Option, Some, None, Result, Ok, Err, refl, sym, ◌∙◌, ap, subst, append_assoc, length-append, arith}
+use Rattle.std.proofs.Common.{◌≡◌, inl, inr, ℕ, ◌+◌, ◌-◌, ◌<◌, Bool, true, false, List, [], ◌∷◌, ◌++◌, length, map, take, Option, Some, None, Result, Ok, Err, refl, sym, ◌∙◌, ap, subst, append_assoc, length-append, arith}
 use Rattle.std.specs.Prelude.{MatchResult}
-use Rattle.std.specs.List.{AllByRecursion}
 use Rattle.std.proofs.lemmas.Bool.{lt-ltb}
 use Rattle.std.proofs.lemmas.List.{append-nil, map-append}
 use Rattle.dm_types.specs.Faults.{Rose}
@@ -20,7 +19,7 @@ use Rattle.dm_api.specs.Serving.{Adds, SendsOut, Serves, WasDropped}
 use Rattle.dm_api.specs.declared.send.Served.{Served}
 use Rattle.dm_api.specs.declared.send.Served.TheVariants as served
 use Rattle.dm_session.specs.Looping.{ClosesSo, IsNotServed, IsServed, TurnedSo, turned_by}
-use Rattle.dm_session.specs.Turning.{AllTurn, AreServed, GoOn, Turn, Turns, WentOver, handed_back, next, none, stops_behind}
+use Rattle.dm_session.specs.Turning.{AllTurn, AreServed, GoOn, Turn, WentOver, handed_back, next, none, stops_behind}
 use Rattle.dm_session.specs.declared.turning.Closed.TheVariants as closes
 use Rattle.dm_session.specs.declared.turning.Turned.{Turned}
 

@@ -1,5 +1,5 @@
 -- The whole clause of a session of the service.
-use Rattle.std.specs.Prelude.{◌≡◌, ℕ, true, []}
+use Rattle.std.specs.Prelude.{ℕ, true, []}
 use Rattle.dm_types.specs.declared.kinds.DiskKind.{DiskKind}
 use Rattle.dm_disk_model.specs.Disk.{History as Clock, now}
 use Rattle.dm_item.specs.Lawful.{History}

@@ -1,5 +1,5 @@
 -- What a session of the service made of the list and of the history, and how it ended.
-use Rattle.std.specs.Prelude.{◌≡◌, ◌⊎◌, ℕ, ◌≤◌, Bool, true, false, List, [], ◌++◌, length, Result}
+use Rattle.std.specs.Prelude.{◌≡◌, ℕ, ◌≤◌, Bool, true, false, List, [], ◌++◌, length, Result}
 use Rattle.dm_types.specs.Limits.{most_items}
 use Rattle.dm_types.specs.declared.item.Item.{Item}
 use Rattle.dm_types.specs.declared.kinds.DiskKind.{DiskKind}

@@ -1,4 +1,3 @@
-use Rattle.std.proofs.Common.{◌≡◌}
 use Rattle.dm_types.specs.Faults.{NoneFell}
 use Rattle.dm_store.specs.Keeps.{IsDesk}
 use Rattle.dm_store.specs.Origin.{said_of}
