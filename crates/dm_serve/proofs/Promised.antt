@@ -28,10 +28,10 @@ untouched says start sound = (
   record { sound = sound; opens = tt; keeps = λ kept rest here. record { moments = at_start start (KeepsOne says kept rest Untouched) (inl here); after = here; settles = tt } },
 )
 
-module _ {D O : Type 0} (outside : Outside) (counts : D → DiskKind → ℕ) (says : O → Says) (origin : O) (words : List (List ℕ)) (before after : World) (past past' : Past) (far far' : ℕ) (line line' : Line) (requests : ℕ) (told : outside.disk) (sound : IsSoundDisk (now before.disk)) where
-  words_promised : (at : ℕ) (said : Said) → ServesWords outside counts says origin words at before after past past' far far' line line' requests said → SomeRun (says origin) before.disk after.disk
+module _ {D O : Type 0} (outside : Outside) (clock : D → Clock) (counts : D → DiskKind → ℕ) (says : O → Says) (origin : O) (words : List (List ℕ)) (before after : World) (past past' : Past) (far far' : ℕ) (line line' : Line) (requests : ℕ) (told : outside.disk) (sound : IsSoundDisk (now before.disk)) where
+  words_promised : (at : ℕ) (said : Said) → ServesWords outside clock counts says origin words at before after past past' far far' line line' requests said → SomeRun (says origin) before.disk after.disk
   words_promised at said (inl refused) = subst (λ (w : World). SomeRun (says origin) before.disk w.disk) (sym refused.same) (untouched (says origin) before.disk sound)
-  words_promised at said (inr served) = (served.runs.run, session_promised outside counts says origin at before after past past' far far' line line' requests said told sound served.runs)
+  words_promised at said (inr served) = (served.runs.run, session_promised outside clock counts says origin at before after past past' far far' line line' requests said told sound served.runs)
 
-  pub serve_promised : (tells : Telling) (moment : ℕ) (seen seen' : Outputs) (status : ℕ) → ServeExplains outside tells counts says origin words moment before after past past' far far' line line' requests seen seen' status → (run : Run) × IsRun (says origin) before.disk after.disk run
+  pub serve_promised : (tells : Telling) (moment : ℕ) (seen seen' : Outputs) (status : ℕ) → ServeExplains outside tells clock counts says origin words moment before after past past' far far' line line' requests seen seen' status → (run : Run) × IsRun (says origin) before.disk after.disk run
   serve_promised tells moment seen seen' status is = words_promised is.at is.said is.serves

@@ -1,6 +1,7 @@
 -- The whole clause of a run of the service.
 use Rattle.std.specs.Prelude.{◌≡◌, ◌⊎◌, ℕ, List, [], ◌∷◌, codes}
 use Rattle.dm_types.specs.declared.kinds.DiskKind.{DiskKind}
+use Rattle.dm_disk_model.specs.Disk.{History as Clock}
 use Rattle.dm_kept.specs.Files.{Says}
 use Rattle.dm_report.specs.Said.{Said, only}
 use Rattle.dm_report.specs.declared.verdict.Verdict.TheVariants.{BadWords}
@@ -30,19 +31,19 @@ pub record WasRefused (words : List (List ℕ)) (before after : World) (past pas
   pub past_is : past' ≡ past
 
 -- the words ask for the service, and this is what a session made of the disk, the history and the connections
-pub record WasServed {D O : Type 0} (outside : Outside) (counts : D → DiskKind → ℕ) (says : O → Says) (origin : O) (words : List (List ℕ)) (at : ℕ) (before after : World) (past past' : Past) (far far' : ℕ) (line line' : Line) (requests : ℕ) (said : Said) : Type 0 where
+pub record WasServed {D O : Type 0} (outside : Outside) (clock : D → Clock) (counts : D → DiskKind → ℕ) (says : O → Says) (origin : O) (words : List (List ℕ)) (at : ℕ) (before after : World) (past past' : Past) (far far' : ℕ) (line line' : Line) (requests : ℕ) (said : Said) : Type 0 where
   pub port : ℕ
   pub asks : AsksServe words port
-  pub runs : ServeRuns outside counts says origin at before after past past' far far' line line' requests said
+  pub runs : ServeRuns outside clock counts says origin at before after past past' far far' line line' requests said
 
-abbrev pub ServesWords : {D O : Type 0} → Outside → (D → DiskKind → ℕ) → (O → Says) → O → List (List ℕ) → ℕ → World → World → Past → Past → ℕ → ℕ → Line → Line → ℕ → Said → Type 0
-ServesWords outside counts says origin words at before after past past' far far' line line' requests said =
-    WasRefused words before after past past' line line' said ⊎ WasServed outside counts says origin words at before after past past' far far' line line' requests said
+abbrev pub ServesWords : {D O : Type 0} → Outside → (D → Clock) → (D → DiskKind → ℕ) → (O → Says) → O → List (List ℕ) → ℕ → World → World → Past → Past → ℕ → ℕ → Line → Line → ℕ → Said → Type 0
+ServesWords outside clock counts says origin words at before after past past' far far' line line' requests said =
+    WasRefused words before after past past' line line' said ⊎ WasServed outside clock counts says origin words at before after past past' far far' line line' requests said
 
 -- One moment and one thing that is said explain all that is seen of a run.
-pub record ServeExplains {D O : Type 0} (outside : Outside) (tells : Telling) (counts : D → DiskKind → ℕ) (says : O → Says) (origin : O) (words : List (List ℕ)) (moment : ℕ) (before after : World) (past past' : Past) (far far' : ℕ) (line line' : Line) (requests : ℕ) (seen seen' : Outputs) (status : ℕ) : Type 0 where
+pub record ServeExplains {D O : Type 0} (outside : Outside) (tells : Telling) (clock : D → Clock) (counts : D → DiskKind → ℕ) (says : O → Says) (origin : O) (words : List (List ℕ)) (moment : ℕ) (before after : World) (past past' : Past) (far far' : ℕ) (line line' : Line) (requests : ℕ) (seen seen' : Outputs) (status : ℕ) : Type 0 where
   pub said : Said
   pub at : ℕ
   pub at_is : tells.clock → at ≡ moment
   pub prints : Prints tells.outputs seen seen' said status
-  pub serves : ServesWords outside counts says origin words at before after past past' far far' line line' requests said
+  pub serves : ServesWords outside clock counts says origin words at before after past past' far far' line line' requests said

@@ -1,16 +1,15 @@
 -- What a session leaves whose list couldn't be opened.
-use Rattle.std.proofs.Common.{◌≡◌, ◌⊎◌, inl, inr, ℕ, true, false, List, [], ◌++◌, Result, Err, refl, sym, ap, ◌∙◌, subst, arith}
+use Rattle.std.proofs.Common.{◌≡◌, inl, inr, ℕ, true, false, ◌++◌, Result, Err, refl, sym, subst, arith}
 use Rattle.dm_types.specs.Faults.{HasCause, NoneFell, Rose}
 use Rattle.dm_types.specs.Limits.{most_items}
 use Rattle.dm_types.specs.declared.kinds.DiskKind.{DiskKind}
 use Rattle.dm_disk_model.specs.Beside.{Besides}
-use Rattle.dm_disk_model.specs.Disk.{DiskState, History as Clock, now}
+use Rattle.dm_disk_model.specs.Disk.{History as Clock, now}
 use Rattle.dm_disk_model.proofs.Beside.{besides_same}
 use Rattle.dm_disk_model.proofs.Reaching.{at_end, weaker}
-use Rattle.dm_item.specs.Lawful.{History}
 use Rattle.dm_kept.specs.Files.{Says, says_all}
-use Rattle.dm_kept.specs.Kept.{Kept, WasKept}
-use Rattle.dm_kept.specs.Recovery.{Found, Through}
+use Rattle.dm_kept.specs.Kept.{Kept}
+use Rattle.dm_kept.specs.Recovery.{Through}
 use Rattle.dm_kept.proofs.Resting.{kept_any}
 use Rattle.dm_open.specs.Refused.{IsHindered, NoneRead, OpenRefuses}
 use Rattle.dm_open.proofs.Unread.{none_read_leaves}
@@ -28,7 +27,7 @@ use Rattle.dm_does.specs.Log.{Unread, Unopened}
 use Rattle.dm_does.specs.World.{IsLater, World}
 use Rattle.dm_does.proofs.Touching.{opening_touches}
 use Rattle.dm_past.specs.Past.{Past}
-use Rattle.dm_session.specs.Explaining.{Outside, ServeRuns, world_of}
+use Rattle.dm_session.specs.Explaining.{ServeRuns, world_of}
 use Rattle.dm_session.specs.Refusing.{SaysRefusal}
 use Rattle.dm_session.specs.Serving.{Line}
 
@@ -47,12 +46,12 @@ opening_shows before after (opens.NoMemory disk) result is cause = tt
 no_damage : (start end : Clock) (said : Said) (verdict : Verdict) → said ≡ only verdict → ShowsDamage start end verdict → ShowsDamage start end said.verdict
 no_damage start end said verdict is shows = subst (λ (s : Said). ShowsDamage start end s.verdict) (sym is) shows
 
-module _ {D O : Type 0} (tells conns_tell knows accept_failed : Type 0) (clock : D → Clock) (counts : D → DiskKind → ℕ) (far : D → ℕ) (says : O → Says) (origin : O) (at : ℕ) (start : D) (said : Said) (past : Past) (line : Line) (requests : ℕ) where
+module _ {D O : Type 0} (tells conns_tell knows : Type 0) (moment : ℕ → Type 0) (accept_failed : Type 0) (clock : D → Clock) (counts : D → DiskKind → ℕ) (far : D → ℕ) (says : O → Says) (origin : O) (at : ℕ) (start : D) (said : Said) (past : Past) (line : Line) (requests : ℕ) where
   abbrev before : World
   before = world_of clock counts start
 
   abbrev RanTo : D → Type 0
-  RanTo end = ServeRuns (record { disk = tells; conns = conns_tell; past = knows; accept_failed = accept_failed }) counts says origin at before (world_of clock counts end) past past (far start) (far end) line line requests said
+  RanTo end = ServeRuns (record { disk = tells; conns = conns_tell; past = knows; moment = moment; accept_failed = accept_failed }) clock counts says origin at before (world_of clock counts end) past past (far start) (far end) line line requests said
 
   module _ (end : D) (fell : NoneFell (counts start) (counts end)) (beside : tells → Besides (IsSettledName clock start) (clock start) (clock end)) where
     abbrev after : World

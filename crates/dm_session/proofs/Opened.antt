@@ -1,5 +1,5 @@
 -- What a session leaves whose list was opened.
-use Rattle.std.proofs.Common.{◌≡◌, ◌⊎◌, inl, inr, ℕ, ◌+◌, Bool, true, false, List, [], ◌∷◌, ◌++◌, drop, length, Result, Ok, Err, refl, sym, ◌∙◌, ap, subst, append_assoc, arith}
+use Rattle.std.proofs.Common.{◌≡◌, inl, ℕ, ◌+◌, Bool, true, false, [], ◌∷◌, ◌++◌, drop, length, Ok, Err, refl, sym, ◌∙◌, ap, subst, append_assoc, arith}
 use Rattle.std.proofs.lemmas.List.{append-nil}
 use Rattle.std.proofs.Math.Seq.{drop-append_seam}
 use Rattle.dm_types.specs.Faults.{NoneFell}
@@ -8,30 +8,28 @@ use Rattle.dm_types.specs.Name.{IsPart}
 use Rattle.dm_types.specs.declared.entry.Entry.{Entry}
 use Rattle.dm_types.specs.declared.kinds.DiskKind.{DiskKind}
 use Rattle.dm_disk_model.specs.Beside.{Besides}
-use Rattle.dm_disk_model.specs.Disk.{DiskState, History as Clock, now}
+use Rattle.dm_disk_model.specs.Disk.{DiskState, History as Clock}
 use Rattle.dm_disk_model.specs.Moments.{Throughout}
 use Rattle.dm_disk_model.proofs.Beside.{besides_more, besides_then}
 use Rattle.dm_disk_model.proofs.Reaching.{joined, weaker}
 use Rattle.dm_item.specs.Lawful.{History, IsLawful, IsOf}
-use Rattle.dm_item.specs.Listing.{Listing, applied}
+use Rattle.dm_item.specs.Listing.{applied}
 use Rattle.dm_item.proofs.Histories.{keeps_step}
 use Rattle.dm_kept.specs.Files.{Says}
-use Rattle.dm_kept.specs.Kept.{Kept}
-use Rattle.dm_kept.specs.Recovery.{Through}
 use Rattle.dm_kept.specs.Room.{IsTaken}
 use Rattle.dm_open.specs.Refused.{RunsOn}
 use Rattle.dm_open.proofs.Opened.{front_more}
 use Rattle.dm_report.specs.Said.{Said}
 use Rattle.dm_store.specs.Becomes.{Becomes, Recorded}
-use Rattle.dm_store.specs.Keeps.{Goes, HoldsOf, added}
+use Rattle.dm_store.specs.Keeps.{Goes, HoldsOf, Keeps, added}
 use Rattle.dm_store.specs.View.{View, spelled}
 use Rattle.dm_store.proofs.Composing.{spelled_then}
-use Rattle.dm_answers.specs.Opening.{IsNear, IsOpened, IsTried}
+use Rattle.dm_answers.specs.Opening.{IsNear, IsOpened}
 use Rattle.dm_answers.specs.Reads.{IsSettledName}
 use Rattle.dm_answers.specs.Shut.{ShutAnswers}
 use Rattle.dm_answers.specs.declared.fault.DeskFault.{DeskFault}
 use Rattle.dm_answers.specs.declared.fault.DeskFault.TheVariants as faults
-use Rattle.dm_does.specs.Leaving.{IsTouched, KeepsAll, Leaves, ShowsDamage}
+use Rattle.dm_does.specs.Leaving.{IsTouched, Leaves, ShowsDamage}
 use Rattle.dm_does.specs.Log.{ArePlain, Log, Opened, tried_of}
 use Rattle.dm_does.specs.Session.{IsSession, log_of}
 use Rattle.dm_does.specs.World.{IsLater, World}
@@ -40,10 +38,10 @@ use Rattle.dm_does.proofs.Sessions.{session_ends, session_holds, session_keeps, 
 use Rattle.dm_does.proofs.Touching.{opening_touches}
 use Rattle.dm_past.specs.Past.{Past}
 use Rattle.dm_works.specs.Moving.{Moved, Steps, fell, recorded, same}
-use Rattle.dm_works.specs.Serving.{AnswersOn, both}
-use Rattle.dm_session.specs.Explaining.{Outside, ServeRuns, world_of}
+use Rattle.dm_works.specs.Serving.{both}
+use Rattle.dm_session.specs.Explaining.{ServeRuns, world_of}
 use Rattle.dm_session.specs.Looping.{ClosesSo, ShutsSo}
-use Rattle.dm_session.specs.Serving.{Line, ServesList, by_broken, said_at_end}
+use Rattle.dm_session.specs.Serving.{AnswersAt, Line, by_broken, said_at_end}
 use Rattle.dm_session.specs.declared.turning.Closed.{Closed}
 use Rattle.dm_session.specs.declared.turning.Closed.TheVariants as closes
 
@@ -125,9 +123,9 @@ module _ {D O : Type 0} (found : History) (opened ended : View D O) (of : IsOf (
   all_plain (recorded entries plain becomes) = plain_by entries [] (made_all entries plain becomes)
   all_plain (fell entries entry plain becomes) = plain_by entries (entry ∷ []) (made_fell entries entry plain becomes)
 
-module _ {D O : Type 0} (tells : Type 0) (clock : D → Clock) (counts : D → DiskKind → ℕ) (far : D → ℕ) (says : O → Says) (origin : O) (at : ℕ) (start : D) (opened left ended : View D O) (origin_is : opened.origin ≡ origin) (limits : opened.limits.items ≡ most_items)
+module _ {D O : Type 0} (tells : Type 0) (clock : D → Clock) (counts : D → DiskKind → ℕ) (far : D → ℕ) (says : O → Says) (origin : O) (at : ℕ) (start : D) (opened left ended : View D O) (origin_is : opened.origin ≡ origin) (limits : opened.limits.items ≡ most_items) (list_limit : opened.items.limit ≡ most_items)
     (is : IsOpened tells clock far (says origin) start at opened) (beside : tells → Besides (IsSettledName clock start) (clock start) (clock opened.disk)) (on : tells → RunsOn (says origin) (clock start) (clock opened.disk) is.found opened.list)
-    (opening_later : NoneFell (counts start) (counts opened.disk)) (steps : Steps tells clock counts far says opened ended) where
+    (opening_later : NoneFell (counts start) (counts opened.disk)) (steps : Steps tells clock counts far says opened ended) (shut_keeps : Keeps tells clock says left ended) where
   abbrev found : History
   found = is.found
 
@@ -185,9 +183,9 @@ module _ {D O : Type 0} (tells : Type 0) (clock : D → Clock) (counts : D → D
     near = near told;
   }
 
-  pub opened_runs : (conns_tell knows accept_failed : Type 0) (past past' : Past) (line line' : Line) (requests : ℕ) (closed : Closed) → ClosesSo conns_tell (AnswersOn knows counts) (both opened past) (both left past') line.over line'.over line.count line'.count accept_failed requests closed → ShutsSo left ended
-      → ServeRuns (record { disk = tells; conns = conns_tell; past = knows; accept_failed = accept_failed }) counts says origin at before after past past' (far start) (far ended.disk) line line' requests (said_at_end closed ended.broken)
-  opened_runs conns_tell knows accept_failed past past' line line' requests closed closes shuts = record {
+  pub opened_runs : (conns_tell knows : Type 0) (moment : ℕ → Type 0) (accept_failed : Type 0) (past past' : Past) (line line' : Line) (requests : ℕ) (closed : Closed) → ClosesSo conns_tell (AnswersAt moment tells knows clock counts says) (both opened past) (both left past') line.over line'.over line.count line'.count accept_failed requests closed → ShutsSo left ended
+      → ServeRuns (record { disk = tells; conns = conns_tell; past = knows; moment = moment; accept_failed = accept_failed }) clock counts says origin at before after past past' (far start) (far ended.disk) line line' requests (said_at_end closed ended.broken)
+  opened_runs conns_tell knows moment accept_failed past past' line line' requests closed closes shuts = record {
     run = Opened here;
     serves = record {
       taken = subst (λ (n : ℕ). IsTaken n found) limits is.taken;
@@ -199,13 +197,18 @@ module _ {D O : Type 0} (tells : Type 0) (clock : D → Clock) (counts : D → D
       ended = ended;
       origin_is = origin_is;
       opened_is = is.items;
+      limit = list_limit;
       log_is = refl;
+      stood = λ told. any_moment _ (clock start) (clock opened.disk) (beside told);
+      holds = is.holds;
       turns = closes.turns;
       served = closes.served;
       closed = closed;
       ends = closes.ends;
       shut = shuts.answer;
       shuts = shuts.answers;
+      shut_keeps = shut_keeps;
+      end_is = refl;
       said_is = refl;
     };
     later = later;
@@ -214,13 +217,13 @@ module _ {D O : Type 0} (tells : Type 0) (clock : D → Clock) (counts : D → D
   }
 
   -- with the disk that is handed back, and how it is told
-  pub ends_so : (conns_tell knows accept_failed : Type 0) (past past' : Past) (line line' : Line) (requests : ℕ) (closed : Closed) → ClosesSo conns_tell (AnswersOn knows counts) (both opened past) (both left past') line.over line'.over line.count line'.count accept_failed requests closed → ShutsSo left ended
+  pub ends_so : (conns_tell knows : Type 0) (moment : ℕ → Type 0) (accept_failed : Type 0) (past past' : Past) (line line' : Line) (requests : ℕ) (closed : Closed) → ClosesSo conns_tell (AnswersAt moment tells knows clock counts says) (both opened past) (both left past') line.over line'.over line.count line'.count accept_failed requests closed → ShutsSo left ended
       → (end : D) → end ≡ ended.disk → (said : Said) → said ≡ said_at_end closed ended.broken
-      → ServeRuns (record { disk = tells; conns = conns_tell; past = knows; accept_failed = accept_failed }) counts says origin at before (world_of clock counts end) past past' (far start) (far end) line line' requests said
-  ends_so conns_tell knows accept_failed past past' line line' requests closed closes shuts end end_is said said_is =
-      subst (λ (d : D). ServeRuns (record { disk = tells; conns = conns_tell; past = knows; accept_failed = accept_failed }) counts says origin at before (world_of clock counts d) past past' (far start) (far d) line line' requests said) (sym end_is)
-      (subst (λ (c : Said). ServeRuns (record { disk = tells; conns = conns_tell; past = knows; accept_failed = accept_failed }) counts says origin at before after past past' (far start) (far ended.disk) line line' requests c) (sym said_is)
-      (opened_runs conns_tell knows accept_failed past past' line line' requests closed closes shuts))
+      → ServeRuns (record { disk = tells; conns = conns_tell; past = knows; moment = moment; accept_failed = accept_failed }) clock counts says origin at before (world_of clock counts end) past past' (far start) (far end) line line' requests said
+  ends_so conns_tell knows moment accept_failed past past' line line' requests closed closes shuts end end_is said said_is =
+      subst (λ (d : D). ServeRuns (record { disk = tells; conns = conns_tell; past = knows; moment = moment; accept_failed = accept_failed }) clock counts says origin at before (world_of clock counts d) past past' (far start) (far d) line line' requests said) (sym end_is)
+      (subst (λ (c : Said). ServeRuns (record { disk = tells; conns = conns_tell; past = knows; moment = moment; accept_failed = accept_failed }) clock counts says origin at before after past past' (far start) (far ended.disk) line line' requests c) (sym said_is)
+      (opened_runs conns_tell knows moment accept_failed past past' line line' requests closed closes shuts))
 
 -- whether the list is broken behind the interruptions
 pub shut_ok : {D O : Type 0} (old new : View D O) (done : Unit {0}) → ShutAnswers old new (Ok done) → new.broken ≡ false

@@ -1,7 +1,6 @@
 -- Connections, one behind another.
-use Rattle.std.proofs.Common.{◌≡◌, ◌⊎◌, inl, inr, ℕ, ◌+◌, ◌-◌, ◌<◌, ◌≤◌, ◌^◌, Bool, true, false, List, [], ◌∷◌, ◌++◌, length, map, take, Option, Some, None, Result, refl, sym, ◌∙◌, ap, subst, append_assoc, length-append, arith}
+use Rattle.std.proofs.Common.{◌≡◌, inl, inr, ℕ, ◌+◌, ◌-◌, ◌<◌, Bool, true, false, List, [], ◌∷◌, ◌++◌, length, map, take, Option, Some, None, Result, Ok, Err, refl, sym, ◌∙◌, ap, subst, append_assoc, length-append, arith}
 use Rattle.std.specs.Prelude.{MatchResult}
-use Rattle.std.specs.List.{AllByRecursion}
 use Rattle.std.proofs.lemmas.Bool.{lt-ltb}
 use Rattle.std.proofs.lemmas.List.{append-nil, map-append}
 use Rattle.dm_types.specs.Faults.{Rose}
@@ -13,12 +12,14 @@ use Rattle.dm_edge.specs.declared.fault.EdgeFault.TheVariants.{Failed}
 use Rattle.dm_conns.specs.Conn.{Over, over_of}
 use Rattle.dm_call.specs.declared.request.ApiRequest.{ApiRequest}
 use Rattle.dm_hear.specs.Heard.{IsCut, IsFaultOf, IsRequest}
+use Rattle.dm_hear.specs.declared.fault.ApiFault.{ApiFault}
 use Rattle.dm_response.specs.declared.reply.ApiReply.{ApiReply}
+use Rattle.dm_api.specs.Outgoing.{Outgoes}
 use Rattle.dm_api.specs.Serving.{Adds, SendsOut, Serves, WasDropped}
 use Rattle.dm_api.specs.declared.send.Served.{Served}
 use Rattle.dm_api.specs.declared.send.Served.TheVariants as served
 use Rattle.dm_session.specs.Looping.{ClosesSo, IsNotServed, IsServed, TurnedSo, turned_by}
-use Rattle.dm_session.specs.Turning.{AllTurn, AreServed, GoOn, Turn, Turns, WentOver, handed_back, next, none, stops_behind}
+use Rattle.dm_session.specs.Turning.{AllTurn, AreServed, GoOn, Turn, WentOver, handed_back, next, none, stops_behind}
 use Rattle.dm_session.specs.declared.turning.Closed.TheVariants as closes
 use Rattle.dm_session.specs.declared.turning.Turned.{Turned}
 
@@ -61,6 +62,18 @@ module _ (tells : Type 0) (before after : Told) (old new : EdgeFault → ℕ) (f
     count_is = count_is;
     stops_is = refl;
   }
+
+-- The same of answers of which more is said.
+module _ {V : Type 0} (answers more : V → ApiRequest → ℕ → Result ApiReply NoMemory → V → Type 0) (service then : V) (tells : Type 0) (before after : Told) (old new : EdgeFault → ℕ) (at : ℕ) (end : Served)
+    (leads : (request : ApiRequest) (answer : Result ApiReply NoMemory) → answers service request at answer then → more service request at answer then) where
+  outgoes_more : (heard : Result ApiRequest ApiFault) (reply : Option ApiReply) → Outgoes answers service then heard at reply → Outgoes more service then heard at reply
+  outgoes_more (Ok request) None is = absurd is
+  outgoes_more (Ok request) (Some reply) (inl is) = inl (leads request (Ok reply) is)
+  outgoes_more (Ok request) (Some reply) (inr (wanting, is, reply_is)) = inr (wanting, leads request (Err wanting) is, reply_is)
+  outgoes_more (Err fault) reply is = is
+
+  pub serves_more : Serves tells answers service then before after old new at end → Serves tells more service then before after old new at end
+  serves_more s = record { heard = s.heard; is = s.is; reply = s.reply; outgoes = outgoes_more s.heard s.reply s.outgoes; sends = s.sends; dropped = s.dropped }
 
 -- The same where less is told.
 module _ (tells fewer : Type 0) (tell : fewer → tells) (before after : Told) (old new : EdgeFault → ℕ) where

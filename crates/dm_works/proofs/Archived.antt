@@ -1,5 +1,5 @@
 -- Items that were moved to the history, as a request is answered.
-use Rattle.std.proofs.Common.{◌≡◌, ◌⊎◌, inl, inr, ℕ, ◌+◌, Bool, true, false, List, [], ◌∷◌, ◌++◌, length, map, take, Result, Ok, Err, refl, sym, ◌∙◌, ap, subst, append_assoc, length-append}
+use Rattle.std.proofs.Common.{◌≡◌, ◌⊎◌, inl, inr, ℕ, ◌+◌, true, false, List, [], ◌∷◌, ◌++◌, length, map, take, Result, Ok, Err, refl, sym, ◌∙◌, ap, subst, append_assoc, length-append}
 use Rattle.std.specs.Prelude.{IfOk, IsTrue}
 use Rattle.std.proofs.lemmas.Bool.{false≢true}
 use Rattle.std.proofs.lemmas.List.{length-map, map-append, take-map}
@@ -30,10 +30,9 @@ use Rattle.dm_service.specs.Api.{Api, api_archive, is_any}
 use Rattle.dm_service.specs.Recalls.{unasked}
 use Rattle.dm_service.specs.Replies.{archived_by}
 use Rattle.dm_service.specs.declared.task.Task.TheVariants as tasks
-use Rattle.dm_works.specs.Answering.{Gives}
 use Rattle.dm_works.specs.Deciding.{DidAll, seen_of}
 use Rattle.dm_works.specs.Moving.{Moved, fell, recorded, same}
-use Rattle.dm_works.specs.Serving.{AnswersTask, Does, HasBegun, Service, WasCut}
+use Rattle.dm_works.specs.Serving.{AnswersTask, Does, Service, WasCut}
 use Rattle.dm_works.specs.Serving as serving
 use Rattle.dm_works.specs.Troubles.{archive_trouble}
 use Rattle.dm_works.proofs.Replying.{gives}
@@ -102,9 +101,6 @@ module _ {D O : Type 0} (told : Type 0) (counts : D → DiskKind → ℕ) (old n
   begun_more gone item rest are is =
       begun (gone ++ item ∷ []) rest (archives gone) (are ∙ sym (append_assoc gone (item ∷ []) rest)) (inr (length-append gone (item ∷ []) ∙ ap (λ (n : ℕ). n + 1) (sym (length-map gone leaves)))) is
 
-  has_begun : (there : History) → IsBegun old.past.rows new.past.rows (puts (map row_of_item over)) there → HasBegun (puts (map row_of_item over)) old.past.rows new.past.rows
-  has_begun there so_far = record { steps = so_far.steps; is = so_far.rows_are }
-
   cut_at : (gone rest : List Item) → over ≡ gone ++ rest → Leave gone old.desk new.desk → (told → IsBegun old.past.rows new.past.rows (puts (map row_of_item over)) (archives gone)) → WasCut told doing old new
   cut_at gone rest are leave so_far = record { recorded = archives gone; rest = archives rest; entries_are = ap archives are ∙ archives_then gone rest; there = left gone leave; begun = so_far }
 
@@ -129,17 +125,20 @@ module _ {D O : Type 0} (told : Type 0) (counts : D → DiskKind → ℕ) (old n
       either (inr put) = begun_more stop.gone stop.item stop.rest stop.are put
   made_some (faults.Desk (desks.Journal kind)) stop cause history replied =
       serving.fell kind cause.cause
-      (inl (record {
-        recorded = archives stop.gone;
-        entry = entries.Archived stop.item.id;
-        rest = archives stop.rest;
-        tries_are = ap archives stop.are ∙ archives_then stop.gone (stop.item ∷ stop.rest);
-        becomes = stop.is.0;
-      }))
-      (λ knows. has_begun (archives stop.gone) (begun_more stop.gone stop.item stop.rest stop.are (stop.is.1 knows))) (gives (trouble_of troubles.Disk) result replied)
+      (inl (
+        record {
+          recorded = archives stop.gone;
+          entry = entries.Archived stop.item.id;
+          rest = archives stop.rest;
+          tries_are = ap archives stop.are ∙ archives_then stop.gone (stop.item ∷ stop.rest);
+          becomes = stop.is.0;
+        },
+        λ knows. begun_more stop.gone stop.item stop.rest stop.are (stop.is.1 knows),
+      ))
+      (gives (trouble_of troubles.Disk) result replied)
   made_some (faults.Desk desks.Broken) stop cause history replied =
       serving.broken (record { changes_is = ap is_any stop.are ∙ is_some stop.gone stop.item stop.rest; broken = stop.is.0 })
-      (λ knows. has_begun (archives stop.gone)
+      (λ knows. subst (IsBegun old.past.rows new.past.rows (puts (map row_of_item over))) (ap archives stop.is.1)
       (begun_more stop.gone stop.item stop.rest stop.are (stop.is.2 knows ∙ ap (λ (gone : List Item). put_all (gone ++ stop.item ∷ []) old.past.rows) (sym stop.is.1)))) (gives (trouble_of troubles.Broken) result replied)
   made_some (faults.Desk fault) stop cause history replied = absurd stop
 

@@ -5,3 +5,4 @@ mod Pausing
 mod Replying
 pub mod Recalled
 mod Archived
+mod Stops

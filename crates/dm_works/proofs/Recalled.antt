@@ -1,17 +1,14 @@
 -- What was answered of a list and a history.
-use Rattle.std.proofs.Common.{◌≡◌, inl, inr, ℕ, ◌+◌, Bool, true, false, List, [], ◌∷◌, ◌++◌, length, map, Option, Some, None, Result, Ok, Err, refl, sym, ◌∙◌, ap, subst, append_assoc, arith}
+use Rattle.std.proofs.Common.{◌≡◌, inl, inr, ℕ, Bool, true, false, List, [], ◌∷◌, length, Option, Some, None, Result, Ok, Err, refl, sym, ◌∙◌, ap, subst, arith}
 use Rattle.std.specs.Prelude.{IfOk, IsTrue, is_none}
 use Rattle.std.specs.List.{All}
 use Rattle.std.proofs.lemmas.Bool.{false≢true}
-use Rattle.std.proofs.lemmas.List.{append-nil}
 use Rattle.dm_types.specs.Faults.{HasCause, NoneFell}
-use Rattle.dm_types.specs.declared.item.Item.{Item}
 use Rattle.dm_types.specs.declared.item.ItemId.{ItemId}
 use Rattle.dm_types.specs.declared.kinds.DiskKind.{DiskKind}
 use Rattle.dm_types.specs.declared.memory.NoMemory.{NoMemory}
 use Rattle.dm_item.specs.Lawful.{History}
 use Rattle.dm_item.specs.Listing.{Listing}
-use Rattle.dm_store.specs.View.{View}
 use Rattle.dm_answers.specs.declared.order.Order.{Order}
 use Rattle.dm_does.specs.declared.job.Job.TheVariants as jobs
 use Rattle.dm_hist.specs.Faults.{keeper_kind}
@@ -28,7 +25,7 @@ use Rattle.dm_shown.specs.declared.named.Named.{Named}
 use Rattle.dm_shown.specs.declared.named.Named.TheVariants as names
 use Rattle.dm_past.specs.ByRows.{FindsFree, IsFree}
 use Rattle.dm_past.specs.Coming.{IsBegun, first_of}
-use Rattle.dm_past.specs.Past.{HasFailed, Past}
+use Rattle.dm_past.specs.Past.{Past}
 use Rattle.dm_past.proofs.Answered.{free_by, row_found}
 use Rattle.dm_call.specs.Asked.{asked}
 use Rattle.dm_call.specs.declared.call.Call.{Call}
@@ -38,7 +35,7 @@ use Rattle.dm_call.specs.declared.request.ApiRequest.{ApiRequest}
 use Rattle.dm_response.specs.Reply.{trouble_of}
 use Rattle.dm_response.specs.declared.reply.ApiReply.{ApiReply}
 use Rattle.dm_response.specs.declared.trouble.Trouble.TheVariants as troubles
-use Rattle.dm_service.specs.Api.{Api, api, api_add, api_asked, api_drop, api_of, api_refused, api_remove, api_task, does_now, tells}
+use Rattle.dm_service.specs.Api.{Api, api, api_add, api_asked, api_of, api_refused, api_remove, api_task, does_now}
 use Rattle.dm_service.specs.Recalls.{IsUnlisted, Recall, Recalls, by_id, by_word, id_recall, is_asked, is_free, is_gone, page, recall_of, unasked, word_recall}
 use Rattle.dm_service.specs.Replies.{removed_reply, row_by, rows_by}
 use Rattle.dm_service.specs.Tasks.{task_by}
@@ -46,11 +43,11 @@ use Rattle.dm_service.specs.declared.task.Task.{Task}
 use Rattle.dm_service.specs.declared.task.Task.TheVariants as tasks
 use Rattle.dm_works.specs.Answering.{Answered, Gives}
 use Rattle.dm_works.specs.Answering as listed
-use Rattle.dm_works.specs.Deciding.{DidAll, seen_of}
-use Rattle.dm_works.specs.Serving.{AnswersAsked, AnswersOn, AnswersTask, Does, HasBegun, RowsStay, Service, TaskAnswers, WasCut}
+use Rattle.dm_works.specs.Deciding.{seen_of}
+use Rattle.dm_works.specs.Serving.{AnswersAsked, AnswersTask, Does, RowsStay, Service, TaskAnswers, WasCut}
 use Rattle.dm_works.specs.Serving as serving
 use Rattle.dm_works.specs.Troubles.{keeper_trouble}
-use Rattle.dm_works.proofs.Replying.{gives, only_told}
+use Rattle.dm_works.proofs.Replying.{gives}
 
 none_of : {T : Type 0} (found : Option T) → is_none found ≡ true → found ≡ None
 none_of None is = refl
@@ -96,8 +93,12 @@ none_first stay rows = refl
 none_first (puts more) rows = refl
 none_first (drops id) rows = refl
 
-none_begun : (change : Change) (rows rows' : List Row) → rows' ≡ rows → HasBegun change rows rows'
-none_begun change rows rows' same = record { steps = 0; is = same ∙ sym (none_first change rows) }
+none_begun : (change : Change) (rows rows' : List Row) → rows' ≡ rows → IsBegun rows rows' change []
+none_begun change rows rows' same = record { steps = 0; steps_are = inl refl; rows_are = same ∙ sym (none_first change rows) }
+
+-- no row is changed
+stay_begun : (change : Change) (there : History) (rows rows' : List Row) → change ≡ stay → rows' ≡ rows → IsBegun rows rows' change there
+stay_begun change there rows rows' stays same = record { steps = length there; steps_are = inl refl; rows_are = same ∙ sym (ap (λ (c : Change). changed_rows (first_of (length there) c) rows) stays) }
 
 module _ {D O : Type 0} (told : Type 0) (counts : D → DiskKind → ℕ) (old new : Service D O) where
   -- nothing was done of it
@@ -107,14 +108,15 @@ module _ {D O : Type 0} (told : Type 0) (counts : D → DiskKind → ℕ) (old n
     rest = doing.entries;
     entries_are = refl;
     there = inr (refl, same);
-    begun = λ knows. record { steps = 0; steps_are = inl refl; rows_are = rest knows ∙ sym (none_first doing.change old.past.rows) };
+    begun = λ knows. none_begun doing.change old.past.rows new.past.rows (rest knows);
   }
 
   -- the list answered, and the rows are as before
   pub by_list : (doing : Api) (result : Result ApiReply NoMemory) → doing.change ≡ stay → RowsStay told old new → Answered counts doing old.desk new.desk result → Does told counts doing old new result
   by_list doing result stays rest (listed.did whole there reply) = serving.did whole there (λ knows. rest knows ∙ sym (ap (λ (c : Change). changed_rows c old.past.rows) stays)) reply
   by_list doing result stays rest (listed.broken refused reply) = serving.broken refused (λ knows. none_begun doing.change old.past.rows new.past.rows (rest knows)) reply
-  by_list doing result stays rest (listed.fell kind rose failed reply) = serving.fell kind rose failed (λ knows. none_begun doing.change old.past.rows new.past.rows (rest knows)) reply
+  by_list doing result stays rest (listed.fell kind rose (inl failed) reply) = serving.fell kind rose (inl (failed, λ knows. stay_begun doing.change failed.recorded old.past.rows new.past.rows stays (rest knows))) reply
+  by_list doing result stays rest (listed.fell kind rose (inr spoiled) reply) = serving.fell kind rose (inr (spoiled, rest)) reply
   by_list doing result stays rest (listed.wanted same reply) = serving.wanted (none_done doing same rest) reply
 
   module _ (at : ℕ) (result : Result ApiReply NoMemory) where
@@ -230,11 +232,11 @@ module _ {D O : Type 0} (told : Type 0) (counts : D → DiskKind → ℕ) (old n
     pub for_task : (task other : Task) → task ≡ other → AnswersTask told counts old other at result new → AnswersTask told counts old task at result new
     for_task task other is answers = subst (λ (t : Task). AnswersTask told counts old t at result new) (sym is) answers
 
-    pub call_answered : (request : ApiRequest) (call : Call) (task : Task) → asked request ≡ Ok call → task ≡ task_by call → AnswersTask told counts old task at result new → AnswersOn told counts old request at result new
+    pub call_answered : (request : ApiRequest) (call : Call) (task : Task) → asked request ≡ Ok call → task ≡ task_by call → AnswersTask told counts old task at result new → AnswersAsked told counts old (asked request) at result new
     call_answered request call task is task_is answers =
         subst (λ (a : Result Call Refusal). AnswersAsked told counts old a at result new) (sym is) (subst (λ (t : Task). AnswersTask told counts old t at result new) task_is answers)
 
-    pub call_refused : (request : ApiRequest) (refusal : Refusal) → new ≡ old → asked request ≡ Err refusal → IfOk result (λ reply. reply ≡ trouble_of (troubles.Refused refusal)) → AnswersOn told counts old request at result new
+    pub call_refused : (request : ApiRequest) (refusal : Refusal) → new ≡ old → asked request ≡ Err refusal → IfOk result (λ reply. reply ≡ trouble_of (troubles.Refused refusal)) → AnswersAsked told counts old (asked request) at result new
     call_refused request refusal same is replied =
         subst (λ (a : Result Call Refusal). AnswersAsked told counts old a at result new) (sym is) (
           serving.did (λ changes. absurd (false≢true changes)) (inr (refl, ap (λ (s : Service D O). s.desk) same)) (λ knows. ap (λ (s : Service D O). s.past.rows) same) (gives (trouble_of (troubles.Refused refusal)) result replied),
@@ -242,7 +244,7 @@ module _ {D O : Type 0} (told : Type 0) (counts : D → DiskKind → ℕ) (old n
         )
 
     -- memory was wanting before it was known what is asked
-    pub call_wanted : (request : ApiRequest) → new ≡ old → result ≡ Err (record {}) → AnswersOn told counts old request at result new
+    pub call_wanted : (request : ApiRequest) → new ≡ old → result ≡ Err (record {}) → AnswersAsked told counts old (asked request) at result new
     call_wanted request same none = by_asked (asked request)
       where
         desk_same : new.desk ≡ old.desk
@@ -259,7 +261,7 @@ module _ {D O : Type 0} (told : Type 0) (counts : D → DiskKind → ℕ) (old n
         by_asked (Err refusal) = (serving.wanted (none_done (api_refused refusal) desk_same rows_same) (inr none), later)
 
     -- Over a history that tells its rows it is what the request does, or the first steps of it.
-    pub as_told : told → (request : ApiRequest) → AnswersOn told counts old request at result new → Does told counts (api (seen_of old.desk at) old.past.rows request) old new result
+    pub as_told : told → (request : ApiRequest) → AnswersAsked told counts old (asked request) at result new → Does told counts (api (seen_of old.desk at) old.past.rows request) old new result
     as_told knows request answers = by_asked (asked request) answers
       where
         by_task : (task : Task) → TaskAnswers told counts old task at result new → Does told counts (api_task (seen_of old.desk at) (recall_of old.desk.items.items old.past.rows task) task) old new result

@@ -1,5 +1,5 @@
 -- What is replied to a job is what the definition says of it.
-use Rattle.std.proofs.Common.{◌≡◌, ◌⊎◌, inl, inr, ℕ, Bool, true, false, List, [], ◌∷◌, ◌++◌, Option, Some, None, Result, Ok, Err, refl, sym, ◌∙◌, ap, subst}
+use Rattle.std.proofs.Common.{◌≡◌, inl, inr, ℕ, false, Option, Result, Ok, Err, refl, sym, ◌∙◌, ap, subst}
 use Rattle.std.specs.Prelude.{IfOk, IsTrue}
 use Rattle.std.proofs.lemmas.Bool.{false≢true}
 use Rattle.dm_types.specs.declared.item.Item.{Item}
@@ -8,12 +8,9 @@ use Rattle.dm_types.specs.declared.kinds.DiskKind.{DiskKind}
 use Rattle.dm_types.specs.declared.memory.NoMemory.{NoMemory}
 use Rattle.dm_item.specs.Lawful.{History}
 use Rattle.dm_item.specs.Listing.{Listing}
-use Rattle.dm_report.specs.declared.verdict.Verdict.TheVariants as verdicts
-use Rattle.dm_store.specs.Becomes.{Recorded, run_of}
+use Rattle.dm_store.specs.Becomes.{run_of}
 use Rattle.dm_store.specs.View.{View}
 use Rattle.dm_does.specs.declared.course.Course.{Course}
-use Rattle.dm_does.specs.declared.course.Course.TheVariants.{Ends}
-use Rattle.dm_does.specs.declared.course.Show.TheVariants.{Nothing}
 use Rattle.dm_does.specs.declared.job.Job.{Job}
 use Rattle.dm_does.specs.Doing.{Doing}
 use Rattle.dm_call.specs.Fitting.{FitsCall}

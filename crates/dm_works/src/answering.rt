@@ -1,11 +1,14 @@
 //! A request is answered.
 ghost use Rattle.std.specs.Prelude.{◌≡◌, IfOk};
+ghost use Rattle.dm_hist.specs.Rows.{AreRows};
 ghost use Rattle.dm_store.specs.Keeps.{IsDesk};
 ghost use Rattle.dm_store.specs.Origin.{said_of};
 ghost use Rattle.dm_service.specs.Replies.{page_by, report_by};
 ghost use Rattle.dm_works.specs.Deciding.{FitsTask};
 ghost use Rattle.dm_works.specs.Moving.{Steps};
-ghost use Rattle.dm_works.specs.Serving.{AnswersOn, AnswersTask, service_of};
+ghost use Rattle.dm_works.specs.Requests.{AnswersOn};
+ghost use Rattle.dm_works.specs.Serving.{AnswersTask, service_of};
+ghost use Rattle.dm_works.specs.Showing.{ShowsTask};
 
 use crate::jobs::do_job;
 use crate::recalling::{add_free, archive, remove_either, show_rows};
@@ -29,9 +32,10 @@ pub fn answer<D: Disk, O: Origin, K: Keeper>(
     now: u64,
 ) -> Result<ApiReply, NoMemory>
     ensures kept { IsDesk D.tells D.history desk.new }
-    ensures answers { AnswersOn K.tells D.faults (service_of K.rows K.faults desk.old keeper.old) request.now now result (service_of K.rows K.faults desk.new keeper.new) }
+    ensures answers { AnswersOn D.tells K.tells D.history D.faults (λ o. said_of (O.says o)) (service_of K.rows K.faults desk.old keeper.old) request.now now result (service_of K.rows K.faults desk.new keeper.new) }
     ensures steps { Steps D.tells D.history D.faults D.far (λ o. said_of (O.says o)) desk.old desk.new }
 {
+    keeper.rows_rise();
     let _items = desk.items();
     match read_call(alloc, request) {
         Ok(call) => do_task(alloc, desk, keeper, task_of(call), now),
@@ -49,8 +53,10 @@ fn do_task<D: Disk, O: Origin, K: Keeper>(
 ) -> Result<ApiReply, NoMemory>
     requires fits { FitsTask task }
     requires desk { IsDesk D.tells D.history desk.old }
+    requires rows { K.tells → AreRows (K.rows keeper.old) }
     ensures kept { IsDesk D.tells D.history desk.new }
     ensures answers { AnswersTask K.tells D.faults (service_of K.rows K.faults desk.old keeper.old) task now result (service_of K.rows K.faults desk.new keeper.new) }
+    ensures shows { ShowsTask D.tells K.tells D.history (λ o. said_of (O.says o)) (service_of K.rows K.faults desk.old keeper.old) task (service_of K.rows K.faults desk.new keeper.new) }
     ensures steps { Steps D.tells D.history D.faults D.far (λ o. said_of (O.says o)) desk.old desk.new }
 {
     match task {

@@ -1,5 +1,5 @@
 //! Requests of which the history is asked.
-ghost use Rattle.std.specs.Prelude.{◌≡◌, ℕ, true, IfOk};
+ghost use Rattle.std.specs.Prelude.{◌≡◌, ℕ, true, false, [], IfOk};
 ghost use Rattle.dm_answers.specs.Add.{IsOrder};
 ghost use Rattle.dm_store.specs.Keeps.{IsDesk};
 ghost use Rattle.dm_store.specs.Origin.{said_of};
@@ -8,6 +8,7 @@ ghost use Rattle.dm_service.specs.Recalls.{is_gone as gone};
 ghost use Rattle.dm_service.specs.declared.task.Task.TheVariants as tasks;
 ghost use Rattle.dm_works.specs.Moving.{Steps};
 ghost use Rattle.dm_works.specs.Serving.{AnswersTask, service_of};
+ghost use Rattle.dm_works.specs.Showing.{ShowsStops};
 ghost use Rattle.dm_works.specs.Troubles.{archive_trouble as trouble_by_archive, keeper_trouble as trouble_by_keeper};
 
 use crate::jobs::do_job;
@@ -66,6 +67,7 @@ pub(crate) fn add_free<D: Disk, O: Origin, K: Keeper>(
     requires desk { IsDesk D.tells D.history desk.old }
     ensures kept { IsDesk D.tells D.history desk.new }
     ensures answers { AnswersTask K.tells D.faults (service_of K.rows K.faults desk.old keeper.old) (tasks.Add order) now result (service_of K.rows K.faults desk.new keeper.new) }
+    ensures rows { K.tells → K.rows keeper.new ≡ K.rows keeper.old }
     ensures steps { Steps D.tells D.history D.faults D.far (λ o. said_of (O.says o)) desk.old desk.new }
 {
     match find_named(desk.items(), keeper, order.word.bytes()) {
@@ -118,6 +120,7 @@ pub(crate) fn remove_either<D: Disk, O: Origin, K: Keeper>(
     requires desk { IsDesk D.tells D.history desk.old }
     ensures kept { IsDesk D.tells D.history desk.new }
     ensures answers { AnswersTask K.tells D.faults (service_of K.rows K.faults desk.old keeper.old) (tasks.Remove id) now result (service_of K.rows K.faults desk.new keeper.new) }
+    ensures rows { gone id.0 desk.old.items.items ≡ false → K.rows keeper.new ≡ K.rows keeper.old }
     ensures steps { Steps D.tells D.history D.faults D.far (λ o. said_of (O.says o)) desk.old desk.new }
 {
     if is_gone(desk, id) {
@@ -136,6 +139,7 @@ pub(crate) fn archive<D: Disk, O: Origin, K: Keeper>(
     requires desk { IsDesk D.tells D.history desk.old }
     ensures kept { IsDesk D.tells D.history desk.new }
     ensures answers { (at : ℕ) → AnswersTask K.tells D.faults (service_of K.rows K.faults desk.old keeper.old) tasks.Archive at result (service_of K.rows K.faults desk.new keeper.new) }
+    ensures shows { ShowsStops D.tells K.tells D.history (λ o. said_of (O.says o)) (service_of K.rows K.faults desk.old keeper.old) (service_of K.rows K.faults desk.new keeper.new) [] }
     ensures steps { Steps D.tells D.history D.faults D.far (λ o. said_of (O.says o)) desk.old desk.new }
 {
     match archive_all(alloc, desk, keeper) {
@@ -151,7 +155,8 @@ pub(crate) fn show_rows<D: Disk, O: Origin, K: Keeper>(
     keeper: &mut K,
     window: Window,
 ) -> Result<ApiReply, NoMemory>
-    ensures { (at : ℕ) → AnswersTask K.tells D.faults (service_of K.rows K.faults desk.now keeper.old) (tasks.History window) at result (service_of K.rows K.faults desk.now keeper.new) }
+    ensures answers { (at : ℕ) → AnswersTask K.tells D.faults (service_of K.rows K.faults desk.now keeper.old) (tasks.History window) at result (service_of K.rows K.faults desk.now keeper.new) }
+    ensures rows { K.tells → K.rows keeper.new ≡ K.rows keeper.old }
 {
     match shown_rows(alloc, desk.items(), keeper, window.after, window.limit) {
         Ok(rows) => rows_reply(alloc, rows.items()),

@@ -4,7 +4,8 @@ ghost use Rattle.dm_store.specs.Keeps.{IsDesk};
 ghost use Rattle.dm_store.specs.Origin.{said_of};
 ghost use Rattle.dm_api.specs.Serving.{Serves};
 ghost use Rattle.dm_works.specs.Moving.{Steps};
-ghost use Rattle.dm_works.specs.Serving.{AnswersOn, service_of};
+ghost use Rattle.dm_works.specs.Requests.{AnswersOn};
+ghost use Rattle.dm_works.specs.Serving.{service_of};
 
 use crate::answering::answer;
 use dm_api::{Served, outgoing_of, read_api, refusal, send_out};
@@ -24,7 +25,7 @@ pub fn serve_one<D: Disk, O: Origin, K: Keeper, X: Conn>(
     now: u64,
 ) -> Served
     ensures kept { IsDesk D.tells D.history desk.new }
-    ensures served { Serves X.tells (AnswersOn K.tells D.faults) (service_of K.rows K.faults desk.old keeper.old) (service_of K.rows K.faults desk.new keeper.new) (X.told conn.old) (X.told conn.new) (X.faults conn.old) (X.faults conn.new) now result }
+    ensures served { Serves X.tells (AnswersOn D.tells K.tells D.history D.faults (λ o. said_of (O.says o))) (service_of K.rows K.faults desk.old keeper.old) (service_of K.rows K.faults desk.new keeper.new) (X.told conn.old) (X.told conn.new) (X.faults conn.old) (X.faults conn.new) now result }
     ensures steps { Steps D.tells D.history D.faults D.far (λ o. said_of (O.says o)) desk.old desk.new }
     ensures later { NoneFell (X.faults conn.old) (X.faults conn.new) }
 {

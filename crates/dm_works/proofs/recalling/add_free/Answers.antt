@@ -1,4 +1,4 @@
-use Rattle.std.proofs.Common.{◌≡◌, ◌∙◌, List, ℕ, Option, Some, None, Ok, Err, ap, refl, subst}
+use Rattle.std.proofs.Common.{◌≡◌, ◌∙◌, List, ℕ, Some, None, Ok, Err, ap, refl, subst}
 use Rattle.std.specs.Prelude.{IfOk}
 use Rattle.dm_store.specs.Origin.{said_of}
 use Rattle.dm_archive.specs.Doing.{Given}

@@ -7,6 +7,7 @@ use Rattle.dm_response.specs.declared.trouble.Trouble.{Trouble}
 use Rattle.dm_works.specs.Serving.{service_of}
 use Rattle.dm_works.proofs.Archived.{archive_moved, archived, unarchived}
 use Rattle.dm_works.proofs.Stepping.{steps_files}
+use Rattle.dm_works.proofs.Stops.{once_shows}
 use Rattle.dm_works.proofs.recalling.archive.Goals as goal
 
 pub returns-in-Ok-clause-answers : goal.returns-in-Ok-clause-answers
@@ -35,3 +36,13 @@ returns-in-Err-clause-steps g c =
     steps_files g.D.Disk.tells g.D.Disk.history g.D.Disk.faults g.D.Disk.far (λ o. said_of (g.O.Origin.says o)) c.args.desk.now c.archive_all.new.desk
     (archive_moved K.tells c.args.desk.now c.archive_all.new.desk (K.rows c.args.keeper.now) (K.rows c.archive_all.new.keeper) (Err c.in-Err.fault) c.in-Err.ensures.answers)
     c.archive_all.ensures.keeps c.archive_all.ensures.beside c.in-Err.ensures.cause.later c.archive_all.ensures.far
+
+pub returns-in-Ok-clause-shows : goal.returns-in-Ok-clause-shows
+returns-in-Ok-clause-shows g c =
+    let K = g.K.Keeper in
+    once_shows g.D.Disk.tells K.tells g.D.Disk.history (λ o. said_of (g.O.Origin.says o)) (service_of K.rows K.faults c.args.desk.now c.args.keeper.now) (service_of K.rows K.faults c.archive_all.new.desk c.archive_all.new.keeper) c.archive_all.ensures.stops
+
+pub returns-in-Err-clause-shows : goal.returns-in-Err-clause-shows
+returns-in-Err-clause-shows g c =
+    let K = g.K.Keeper in
+    once_shows g.D.Disk.tells K.tells g.D.Disk.history (λ o. said_of (g.O.Origin.says o)) (service_of K.rows K.faults c.args.desk.now c.args.keeper.now) (service_of K.rows K.faults c.archive_all.new.desk c.archive_all.new.keeper) c.archive_all.ensures.stops
