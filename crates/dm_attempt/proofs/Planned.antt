@@ -154,9 +154,9 @@ module _ {D O : Type 0} (tells : Type 0) (clock : D → Clock) (says : O → Say
                 placed = subst (λ (p : List Part). AreNumbered 0 p × AreAtEnds p (opened_by total trace.count least (cover_by scene trace))) (sym (empty_parts (next_parts scene trace))) placed;
               };
               brought = λ told content start rounds place has.
-              let back = subst (λ (cover : List Slice). HasByte cover place) (empty_filled (opened_by total trace.count least (cover_by scene trace)) (next_parts scene trace)) has in
-              subst (λ (disk : D). HasAt content (part_bytes clock disk (told_by scene trace.told)) place) (sym answer.is.still)
-              (live.brought told content start rounds.1 place (opened_back total trace.count least (cover_by scene trace) covers place back));
+                  let back = subst (λ (cover : List Slice). HasByte cover place) (empty_filled (opened_by total trace.count least (cover_by scene trace)) (next_parts scene trace)) has in
+                  subst (λ (disk : D). HasAt content (part_bytes clock disk (told_by scene trace.told)) place) (sym answer.is.still)
+                  (live.brought told content start rounds.1 place (opened_back total trace.count least (cover_by scene trace) covers place back));
             },
           )
 
@@ -309,8 +309,8 @@ module _ {D O : Type 0} (tells : Type 0) (clock : D → Clock) (says : O → Say
           (record { item = live.runs.item; there = live.runs.there; runs = live.runs.runs; attempt_is = live.runs.attempt_is; life = live.runs.life; lives = live.runs.lives; is = live.runs.is });
       planned = live.planned;
       brought = λ told_it content start rounds place has.
-      let item = begun_by scene in
-      subst (λ (t : Clock). HasAt content (bytes_at (now t) (part_place item.id.0 item.epoch.0)) place) (sym still) (live.brought told_it content start rounds place has);
+          let item = begun_by scene in
+          subst (λ (t : Clock). HasAt content (bytes_at (now t) (part_place item.id.0 item.epoch.0)) place) (sym still) (live.brought told_it content start rounds place has);
     }
 
     pub describe_stops : (fault : DeskFault) → DescribeAnswers tells clock counts old new pass told (Err fault) → Raises fault → Refused tells clock says far counts scene pass new mine (stop_by fault)

@@ -238,8 +238,8 @@ module _ {D O : Type 0} (tells : Type 0) (clock : D → Clock) (says : O → Say
       runs = saved_runs trace live recorded;
       planned = kept_planned old trace live;
       brought = λ told content start rounds place has.
-      let item = told_by scene trace.told in
-      subst (λ (file : Option (List ℕ)). HasAt content file place) (sym (reads told (part_name item.id.0 item.epoch.0))) (live.brought told content start rounds place has);
+          let item = told_by scene trace.told in
+          subst (λ (file : Option (List ℕ)). HasAt content file place) (sym (reads told (part_name item.id.0 item.epoch.0))) (live.brought told content start rounds place has);
     }
 
     -- what was landed was saved
@@ -327,12 +327,12 @@ module _ {D O : Type 0} (tells : Type 0) (clock : D → Clock) (says : O → Say
             placed = subst (λ (l : List Part). AreNumbered 0 l × AreAtEnds l (opened_by total older.count least round.cover)) (sym (added_keeps round.shares part.index piece)) live.planned.placed;
           };
           brought = λ told content before rounds.
-          let is = life_is tells clock old pass (IsTraced scene trace) was live.goes.went.broken_is live.runs in
-          let there = part_there tells clock old pass.id pass.attempt (IsTraced scene trace) was live.goes.went.broken_is live.runs (told_of live.runs.item.key live.runs.item.key refl (λ none. let one = live.runs.is.round_is in let two = (is.untold none).1 in omega (arith, one, two))) told in
-          let at_is : at ≡ next.share.part.first + length next.share.bytes = let first = ap (λ (p : Part). p.first) next.part_is in let place = next.at_is in omega (arith, first, place) in
-          let had = subst (HasCover content (cover_by scene trace)) (sym (part_told trace live old.disk) ∙ there.1) (live.brought told content before (shares_front content round.shares part.index piece rounds.0, rounds.1)) in
-          subst (HasCover content (cover_by scene after)) (sym (reads told live.runs.item live.runs.there there.0 there.1) ∙ part_told trace live new.disk)
-          (has_landed content there.0 at piece (piece_of content round.shares part.index piece next.share at next.is at_is rounds.0) (opened_by total older.count least round.cover) round.shares part.index next.share live.planned.placed.1 next.is at_is had);
+              let is = life_is tells clock old pass (IsTraced scene trace) was live.goes.went.broken_is live.runs in
+              let there = part_there tells clock old pass.id pass.attempt (IsTraced scene trace) was live.goes.went.broken_is live.runs (told_of live.runs.item.key live.runs.item.key refl (λ none. let one = live.runs.is.round_is in let two = (is.untold none).1 in omega (arith, one, two))) told in
+              let at_is : at ≡ next.share.part.first + length next.share.bytes = let first = ap (λ (p : Part). p.first) next.part_is in let place = next.at_is in omega (arith, first, place) in
+              let had = subst (HasCover content (cover_by scene trace)) (sym (part_told trace live old.disk) ∙ there.1) (live.brought told content before (shares_front content round.shares part.index piece rounds.0, rounds.1)) in
+              subst (HasCover content (cover_by scene after)) (sym (reads told live.runs.item live.runs.there there.0 there.1) ∙ part_told trace live new.disk)
+              (has_landed content there.0 at piece (piece_of content round.shares part.index piece next.share at next.is at_is rounds.0) (opened_by total older.count least round.cover) round.shares part.index next.share live.planned.placed.1 next.is at_is had);
         }
 
   -- the next piece of a part has its place

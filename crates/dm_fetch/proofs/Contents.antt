@@ -234,9 +234,9 @@ module _ {D : Type 0} (clock : D → Clock) (disk : D) (net : Type 0) (t : net) 
 sum_by : (content : List ℕ) (file : Option (List ℕ)) (cover : List Slice) (total : ℕ) (have : List ℕ) → IsFull total cover → HasCover content cover file → HasSum file total have → length content ≤ total → have ≡ sha256 content
 sum_by content file cover total have full has sum enough =
     let agree : (place : ℕ) → place < total → Agree sum.bytes content place = λ place below.
-        let at = has place (full place below) in
-        let same : at.bytes ≡ sum.bytes = same_Some at.bytes sum.bytes (sym at.reads ∙ sum.there) in
-        record { byte = at.byte; there = subst (λ (l : List ℕ). slice_get l place ≡ Some at.byte) same at.there; is = at.is } in
+    let at = has place (full place below) in
+    let same : at.bytes ≡ sum.bytes = same_Some at.bytes sum.bytes (sym at.reads ∙ sum.there) in
+    record { byte = at.byte; there = subst (λ (l : List ℕ). slice_get l place ≡ Some at.byte) same at.there; is = at.is } in
     let most = reached total sum.bytes content agree in
     sum.sum_is ∙ ap sha256 (taken total sum.bytes content (omega (arith, enough, most)) agree)
 

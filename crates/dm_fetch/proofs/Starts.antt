@@ -78,10 +78,10 @@ module _ {D O : Type 0} (tells : Type 0) (clock : D → Clock) (says : O → Say
       });
       planned = none_planned closed before n;
       brought = λ told content start rounds place has.
-      let made = changed_all (beginning item by at) item in
-      let kept = files told in
-      let later = kept.later in
-      subst (λ (folder : Folder). HasAt content (contents_of folder (part_name made.id.0 made.epoch.0)) place) (sym (kept.each (clock new.disk).moment later (omega arith))) (start place has);
+          let made = changed_all (beginning item by at) item in
+          let kept = files told in
+          let later = kept.later in
+          subst (λ (folder : Folder). HasAt content (contents_of folder (part_name made.id.0 made.epoch.0)) place) (sym (kept.each (clock new.disk).moment later (omega arith))) (start place has);
     }
 
     -- and no more slices are saved than may be
