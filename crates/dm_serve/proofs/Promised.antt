@@ -1,5 +1,5 @@
 -- A run of the service is one over which the promise over all runs goes on.
-use Rattle.std.proofs.Common.{◌⊎◌, inl, inr, ℕ, List, sym, subst}
+use Rattle.std.proofs.Common.{inl, inr, ℕ, List, sym, subst}
 use Rattle.dm_types.specs.declared.kinds.DiskKind.{DiskKind}
 use Rattle.dm_disk_model.specs.Disk.{History as Clock, IsSoundDisk, now}
 use Rattle.dm_disk_model.proofs.Reaching.{at_start}
