@@ -77,6 +77,7 @@ module _ {D O : Type 0} (tells : Type 0) (clock : D → Clock) (says : O → Say
     recorded = fell.recorded;
     failed = fell.failed;
     rest = fell.rest;
+    unpublished = fell.unpublished;
     is = fell.is;
     goes = fell.goes;
     planned = fell.planned;
@@ -110,6 +111,7 @@ module _ {D O : Type 0} (tells : Type 0) (clock : D → Clock) (says : O → Say
     recorded = fell.recorded;
     failed = fell.failed;
     rest = fell.rest;
+    unpublished = fell.unpublished;
     is = fell.is;
     goes = fell.goes;
     planned = fell.planned;

@@ -191,6 +191,7 @@ module _ {D O : Type 0} (tells : Type 0) (clock : D → Clock) (says : O → Say
         recorded = before ++ fell.recorded;
         failed = fell.entry ∷ [];
         rest = fell.rest ++ more;
+        unpublished = λ none. absurd (let e = none in cc);
         is = ap (λ (h : History). head ++ h) (sym whole) ∙ ap (λ (h : History). head ++ ((so_far id trace ++ h) ++ more)) fell.tries_are ∙ parts;
         goes = finish_goes fell.recorded (fell.entry ∷ []) true (becomes_went old new fell.recorded (fell.entry ∷ []) true fell.becomes) owned;
         planned = planned;
@@ -312,6 +313,7 @@ module _ {D O : Type 0} (tells : Type 0) (clock : D → Clock) (says : O → Say
                 recorded = before ++ es;
                 failed = [];
                 rest = rest;
+                unpublished = λ none. ap (λ (i : ItemId). entries.Done i naming.digest at ∷ []) (id_same P found) ∙ ap (λ (a : ℕ). entries.Done id naming.digest a ∷ []) at_is;
                 is = sym whole ∙ ap (λ (h : History). h ++ rest) (sym (append-nil (before ++ es)));
                 goes = finish_goes es [] true (becomes_went old new es [] true naming.becomes) own;
                 planned = planned;

@@ -178,6 +178,7 @@ module _ {D O : Type 0} (tells : Type 0) (clock : D → Clock) (says : O → Say
           recorded = (head ++ before) ++ fell.recorded;
           failed = fell.entry ∷ [];
           rest = fell.rest ++ more;
+          unpublished = λ none. absurd (let e = none in cc);
           is = ap (λ (h : History). head ++ h) (sym is) ∙ ap (λ (h : History). head ++ ((before ++ h) ++ more)) fell.tries_are ∙ parts;
           goes = goes_more tells clock says far counts IsPart (IsSpared scene ((head ++ before) ++ fell.recorded)) (λ name part. inl part) scene.start new ((head ++ before) ++ fell.recorded) (fell.entry ∷ []) true
               (goes_then tells clock says far counts IsPart scene.start old new (head ++ before) fell.recorded (fell.entry ∷ []) true live.goes (becomes_went old new fell.recorded (fell.entry ∷ []) true fell.becomes) call);

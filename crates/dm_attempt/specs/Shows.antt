@@ -1,6 +1,8 @@
 -- What the desk shows of an end.
-use Rattle.std.specs.Prelude.{◌≡◌, ◌≢◌, ◌⊎◌, ℕ, ◌<◌, Bool, List, [], ◌++◌, Option, Some, None, IfSome, IsTrue, true}
+use Rattle.std.specs.Prelude.{◌≡◌, ◌≢◌, ◌⊎◌, ℕ, ◌<◌, Bool, List, [], ◌∷◌, ◌++◌, Option, Some, None, IfSome, IsTrue, true}
 use Rattle.dm_types.specs.Faults.{Rose}
+use Rattle.dm_types.specs.declared.entry.Entry.TheVariants as entries
+use Rattle.dm_types.specs.declared.item.ItemId.{ItemId}
 use Rattle.dm_types.specs.declared.kinds.DiskKind.{DiskKind}
 use Rattle.dm_types.specs.declared.slices.Slice.{Slice}
 use Rattle.dm_disk_model.specs.Disk.{History as Clock}
@@ -80,8 +82,13 @@ ShowsClose came tells clock says far counts scene present trace P (Broken cause)
 ShowsClose came tells clock says far counts scene present trace P (Done total digest) =
     IsTrue came × (total ≡ total_by scene trace) × DeskDone tells clock says far counts scene (pass_of scene.item) trace digest
 
--- The journal failed: of the entries of an attempt that might have gone on and closed so those before some place are recorded, and the next one perhaps failed.
--- What was to close it was shown, where it was no cause with P. What was told of the content stays as it was told.
+-- the attempt was to close with a file, and of its entries the last one alone is missing
+abbrev pub IsUnpublished : ItemId → ℕ → Close → History → Type 0
+IsUnpublished id at (Broken cause) rest = ⊥
+IsUnpublished id at (Done total digest) rest = rest ≡ entries.Done id digest at ∷ []
+
+-- The journal failed: of the entries of an attempt that might have gone on and closed so those before some place are recorded, and the next one failed.
+-- What was to close it was shown, where it was no cause with P. What was told of the content stays as it was told. Where no entry failed, the publication did.
 pub record DeskFell {D O : Type 0} (came : Bool) (tells : Type 0) (clock : D → Clock) (says : O → Says) (far : D → ℕ) (counts : D → DiskKind → ℕ) (scene : Scene D O) (present : View D O) (trace : Trace) (P : Cause → Type 0) : Type 0 where
   pub after : Trace
   pub led_is : after.led ≡ trace.led
@@ -94,6 +101,7 @@ pub record DeskFell {D O : Type 0} (came : Bool) (tells : Type 0) (clock : D →
   pub recorded : History
   pub failed : History
   pub rest : History
+  pub unpublished : failed ≡ [] → IsUnpublished scene.item.id scene.at close rest
   pub is : all_entries scene after close ≡ (recorded ++ failed) ++ rest
   pub goes : DeskGoes tells clock says far counts (IsSpared scene recorded) scene.start present recorded failed true
   pub planned : IsPlanned scene after

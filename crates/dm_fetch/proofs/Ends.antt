@@ -54,6 +54,7 @@ module _ {D O : Type 0} (tells : Type 0) (clock : D → Clock) (says : O → Say
       recorded = fell.recorded;
       failed = fell.failed;
       rest = fell.rest;
+      unpublished = fell.unpublished;
       is = fell.is;
       goes = fell.goes;
       planned = fell.planned;

@@ -120,6 +120,7 @@ module _ {D O : Type 0} (tells : Type 0) (clock : D → Clock) (says : O → Say
           recorded = fell.recorded;
           failed = fell.entry ∷ [];
           rest = fell.rest ++ more;
+          unpublished = λ none. absurd (let e = none in cc);
           is = sym is ∙ ap (λ (h : History). h ++ more) fell.tries_are ∙ parts;
           goes = goes_more tells clock says far counts IsPart (IsSpared scene fell.recorded) (λ name part. inl part) old new fell.recorded (fell.entry ∷ []) true (goes fell.recorded (fell.entry ∷ []) true fell.becomes);
           planned = none_planned closed before 0;

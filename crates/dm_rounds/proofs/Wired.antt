@@ -121,6 +121,7 @@ module _ {D O : Type 0} (tells : Type 0) (clock : D → Clock) (says : O → Say
     recorded = fell.recorded;
     failed = fell.failed;
     rest = fell.rest;
+    unpublished = fell.unpublished;
     is = fell.is;
     goes = fell.goes;
     planned = planned_wired round wires (record fell.after { rounds = older.rounds }) (subst (λ (rounds : List Round). IsPlanned scene (record fell.after { rounds = rounds })) fell.rounds_are fell.planned);
