@@ -28,7 +28,7 @@ use Rattle.dm_store.specs.declared.life.Life.{Life}
 use Rattle.dm_store.specs.Keeps.{HoldsOf, IsDesk, Keeps, RestsBy}
 use Rattle.dm_store.specs.Lives.{AreBounded, AreLives, IsLifeOf, LifeOf, changed_life, covers_of, life_in}
 use Rattle.dm_store.specs.View.{View}
-use Rattle.dm_store.proofs.Keeping.{at_rest, step_keeps}
+use Rattle.dm_store.proofs.Keeping.{at_rest, step_keeps, whole_loses}
 use Rattle.dm_store.proofs.Lives.{changed_other, changed_own}
 
 -- as many lives as before
@@ -126,7 +126,7 @@ module _ {D O : Type 0} (tells : Type 0) (clock : D → Clock) (says : O → Say
   )
 
   pub alive_keeps : Keeps tells clock says desk (record desk { lives = changed_life id.0 f desk.lives })
-  alive_keeps = step_keeps tells clock says desk (record desk { lives = changed_life id.0 f desk.lives }) refl (is.failed whole) goes
+  alive_keeps = step_keeps tells clock says desk (record desk { lives = changed_life id.0 f desk.lives }) refl (is.failed whole) goes (whole_loses tells clock desk (record desk { lives = changed_life id.0 f desk.lives }) whole)
 
   lives_alive : AreLives desk.items.items (changed_life id.0 f desk.lives)
   lives_alive k = by (k == id.0) refl

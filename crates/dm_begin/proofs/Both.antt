@@ -29,7 +29,7 @@ use Rattle.dm_item.specs.Lawful.{History, IsOf, items_of}
 use Rattle.dm_item.specs.Listing.{Admits, Listing, Row, applied, changed_at, item_in}
 use Rattle.dm_item.specs.Row.{begins_in, begun_item, changed}
 use Rattle.dm_item.proofs.Histories.{keeps_step}
-use Rattle.dm_journal.specs.AtRest.{AtRest, WithOrWithout, journal_name, journal_place}
+use Rattle.dm_journal.specs.AtRest.{AtRest, MayLeaveJust, WithOrWithout, journal_name, journal_place}
 use Rattle.dm_kept.specs.Files.{Covers, EachItem, EndsLive, Facts, IfGood, PartsStand, Says, says_all}
 use Rattle.dm_kept.specs.Kept.{Kept, Rests, Sits}
 use Rattle.dm_kept.specs.Recovery.{Through}
@@ -248,7 +248,8 @@ module _ {D O : Type 0} (tells : Type 0) (clock : D → Clock) (says : O → Say
         }
 
         -- It failed: the desk is broken, with the first in its list.
-        module _ (items : new.items ≡ mid) (list : new.list ≡ desk.list ++ began ∷ []) (failed : new.failed ≡ broke ∷ []) (broken : new.broken ≡ true) where
+        module _ (items : new.items ≡ mid) (list : new.list ≡ desk.list ++ began ∷ []) (failed : new.failed ≡ broke ∷ []) (broken : new.broken ≡ true)
+            (lost : tells → (bodies : List (List ℕ)) → AtRest (now middle) gate bodies → MayLeaveJust bodies (now end).state) where
           pub fallen_keeps : Keeps tells clock says desk new
           fallen_keeps told good before holds =
               let said : Says = says desk.origin in
@@ -261,6 +262,9 @@ module _ {D O : Type 0} (tells : Type 0) (clock : D → Clock) (says : O → Say
                       (subst (λ (h : History). Kept good said (Through (before ++ began ∷ []) h) (now end)) (sym failed)
                       (at_end middle end (Kept good said (Through (before ++ began ∷ []) (broke ∷ []))) (second_moments told good said before holds)));
                 };
+                loses = λ was broke_it.
+                    let rests = first_rests told good said before holds in
+                    resting.bodies_leave (before ++ began ∷ []) (now end) rests.entries (lost told (bodies_of (before ++ began ∷ [])) rests.journal);
               })
 
           pub fallen_desk : AreBounded (desk.limits.checkpoint + desk.limits.piece) new.lives → IsDesk tells clock new
@@ -303,6 +307,7 @@ module _ {D O : Type 0} (tells : Type 0) (clock : D → Clock) (says : O → Say
                       (subst (λ (l : List Life). Sits good said (before ++ began ∷ broke ∷ []) new.gate (covers_of l) (now end)) (sym lives)
                       (subst (λ (h : History). Sits good said h new.gate covers (now end)) longer (sits_both told good said before holds)));
                 };
+                loses = λ was broke_it. absurd (false≢true (sym broken ∙ broke_it));
               })
 
           pub ended_desk : IsDesk tells clock new

@@ -11,7 +11,7 @@ use Rattle.dm_kept.proofs.Resting as resting
 use Rattle.dm_store.specs.Keeps.{HoldsOf, IsDesk, Keeps, RestsBy}
 use Rattle.dm_store.specs.Lives.{covers_of}
 use Rattle.dm_store.specs.View.{View}
-use Rattle.dm_store.proofs.Keeping.{at_rest, keeps_then, step_desk, step_keeps}
+use Rattle.dm_store.proofs.Keeping.{at_rest, keeps_then, step_desk, step_keeps, whole_loses}
 
 module _ {D O : Type 0} (tells : Type 0) (clock : D → Clock) (says : O → Says) (desk : View D O) (disk : D) (same : clock disk ≡ clock desk.disk) (is : IsDesk tells clock desk) (whole : desk.broken ≡ false) where
   goes : tells → (good : Bool) (said : Says) (before : History) → HoldsOf good said clock desk before
@@ -27,7 +27,7 @@ module _ {D O : Type 0} (tells : Type 0) (clock : D → Clock) (says : O → Say
   )
 
   pub still_keeps : Keeps tells clock says desk (record desk { disk = disk })
-  still_keeps = step_keeps tells clock says desk (record desk { disk = disk }) refl (is.failed whole) goes
+  still_keeps = step_keeps tells clock says desk (record desk { disk = disk }) refl (is.failed whole) goes (whole_loses tells clock desk (record desk { disk = disk }) whole)
 
   pub still_desk : IsDesk tells clock (record desk { disk = disk })
   still_desk = step_desk tells clock says desk (record desk { disk = disk }) refl (is.failed whole) goes is refl refl refl (λ unbroken. is.lives whole)

@@ -40,7 +40,7 @@ use Rattle.dm_store.specs.declared.life.Life.{Life}
 use Rattle.dm_store.specs.Keeps.{Allows, HoldsOf, IsDesk, Keeps, RecordGoes, RestsBy, StandBehind}
 use Rattle.dm_store.specs.Lives.{AreAfter, EndWithin, IsLifeFor, IsLifeOf, LifeOf, covers_of, is_plain, life_in, lives_after}
 use Rattle.dm_store.specs.View.{View}
-use Rattle.dm_store.proofs.Keeping.{at_rest, keeps_then, step_desk, step_keeps}
+use Rattle.dm_store.proofs.Keeping.{at_rest, keeps_then, step_desk, step_keeps, whole_loses}
 use Rattle.dm_store.proofs.Saved.{going_is}
 use Rattle.dm_begin.specs.Anew.{Renews}
 use Rattle.dm_begin.specs.Told.{IsDescribing}
@@ -159,7 +159,7 @@ module _ {D O : Type 0} (tells : Type 0) (clock : D → Clock) (says : O → Say
     )
 
     pub renewed_keeps : Keeps tells clock says desk (record desk { disk = disk })
-    renewed_keeps = step_keeps tells clock says desk (record desk { disk = disk }) refl (is.failed whole) goes
+    renewed_keeps = step_keeps tells clock says desk (record desk { disk = disk }) refl (is.failed whole) goes (whole_loses tells clock desk (record desk { disk = disk }) whole)
 
     pub renewed_desk : IsDesk tells clock (record desk { disk = disk })
     renewed_desk = step_desk tells clock says desk (record desk { disk = disk }) refl (is.failed whole) goes is refl refl refl (λ unbroken. is.lives whole)

@@ -1,5 +1,5 @@
 -- What a session on a desk leaves is what the clause of a run says.
-use Rattle.std.proofs.Common.{◌≡◌, ◌⊎◌, inl, inr, ℕ, Bool, true, false, List, ◌++◌, Option, sym, subst, append_assoc}
+use Rattle.std.proofs.Common.{◌≡◌, ◌⊎◌, inl, inr, ℕ, Bool, true, false, List, ◌++◌, Option, sym, ◌∙◌, subst, append_assoc}
 use Rattle.std.proofs.lemmas.Bool.{true≢false}
 use Rattle.dm_disk_model.specs.Disk.{DiskState, Image, History as Clock, bytes_at, now}
 use Rattle.dm_disk_model.specs.File.{settled_file}
@@ -14,7 +14,7 @@ use Rattle.dm_kept.specs.Kept.{Kept, Recovers, Rests, WasKept}
 use Rattle.dm_kept.specs.Recovery.{Found, Through}
 use Rattle.dm_kept.specs.Spelled.{Records}
 use Rattle.dm_kept.proofs.Resting.{kept_any, kept_weaker, recovers_weaker, sits_kept, through_back, through_front}
-use Rattle.dm_store.specs.Keeps.{Goes, HoldsOf, RestsBy, added}
+use Rattle.dm_store.specs.Keeps.{Goes, HoldsOf, LosesFailed, RestsBy, added}
 use Rattle.dm_store.specs.Lives.{covers_of}
 use Rattle.dm_store.specs.View.{View}
 use Rattle.dm_answers.specs.Opening.{LeavesSome}
@@ -95,6 +95,8 @@ module _ {D O : Type 0} (clock : D → Clock) (says : Says) (start : Clock) (fou
   pub session_ends : EndsWith (now (clock ended.disk)) (Opened (log_of found opened ended))
   session_ends =
       let held : HoldsOf false says clock ended ((found ++ opened.list) ++ more) = (goes_from false tt).holds in
-      subst (λ (h : History). Kept false says_all (Through h ended.failed) (now (clock ended.disk))) (append_assoc found opened.list more)
-      (kept_any says says_all (Through ((found ++ opened.list) ++ more) ended.failed) (now (clock ended.disk))
-      (by_whole ended.broken false says ((found ++ opened.list) ++ more) ended.failed ended.gate (covers_of ended.lives) (now (clock ended.disk)) held.rests))
+      subst (λ (h : History). Kept false says_all (Through h ended.failed) (now (clock ended.disk)) × LosesFailed clock ended h) (append_assoc found opened.list more) (
+        kept_any says says_all (Through ((found ++ opened.list) ++ more) ended.failed) (now (clock ended.disk))
+            (by_whole ended.broken false says ((found ++ opened.list) ++ more) ended.failed ended.gate (covers_of ended.lives) (now (clock ended.disk)) held.rests),
+        (goes_from false tt).loses (λ broken. absurd (true≢false (sym broken ∙ is.whole))),
+      )

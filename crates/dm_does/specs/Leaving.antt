@@ -14,7 +14,7 @@ use Rattle.dm_item.specs.Listing.{item_in}
 use Rattle.dm_journal.specs.AtRest.{journal_place}
 use Rattle.dm_journal.specs.Starting.{NoneOrBlank, WasLeft}
 use Rattle.dm_kept.specs.Files.{Says, says_all}
-use Rattle.dm_kept.specs.Kept.{Kept}
+use Rattle.dm_kept.specs.Kept.{Kept, LeavesJust}
 use Rattle.dm_kept.specs.Recovery.{Found, Through}
 use Rattle.dm_kept.specs.Spelled.{Records}
 use Rattle.dm_report.specs.declared.verdict.Verdict.{Verdict}
@@ -78,12 +78,12 @@ abbrev pub HoldsLog : Clock → Run → Type 0
 HoldsLog end (Opened log) = log.broken ≡ false → Records (bytes_at (now end) journal_place) (kept_of log)
 HoldsLog end _ = Unit {0}
 
--- What a crash at the end leaves: all that was recorded, and perhaps the entry that failed. Where none failed it is just that.
+-- What a crash at the end leaves: all that was recorded, and perhaps the entry that failed. Where none failed it is just that. Of a broken desk some crash leaves just what was recorded.
 abbrev pub EndsWith : DiskState → Run → Type 0
 EndsWith disk Untouched = Unit {0}
 EndsWith disk Unread = Unit {0}
 EndsWith disk (Unopened found recorded failed rest) = Kept false says_all (Through (found ++ recorded) failed) disk
-EndsWith disk (Opened log) = Kept false says_all (Through (kept_of log) log.failed) disk
+EndsWith disk (Opened log) = Kept false says_all (Through (kept_of log) log.failed) disk × (log.broken ≡ true → LeavesJust (kept_of log) disk)
 
 -- a journal that is told as damaged is damaged at that place, and nothing was written
 abbrev pub ShowsDamage : Clock → Clock → Verdict → Type 0

@@ -1,5 +1,5 @@
 -- A desk that was opened, and calls on it: what the desk's own clauses say of both, from which what a run leaves is put together.
-use Rattle.std.specs.Prelude.{◌⊎◌, Bool, true, ◌++◌}
+use Rattle.std.specs.Prelude.{◌≡◌, ◌⊎◌, Bool, true, false, ◌++◌}
 use Rattle.dm_disk_model.specs.Disk.{History as Clock, now}
 use Rattle.dm_disk_model.specs.Moments.{Throughout}
 use Rattle.dm_item.specs.Lawful.{History}
@@ -14,6 +14,7 @@ use Rattle.dm_does.specs.Log.{Log}
 
 -- The desk was opened on what was found, and then only calls of the desk were made.
 pub record IsSession {D O : Type 0} (clock : D → Clock) (says : Says) (start : Clock) (found : History) (opened ended : View D O) : Type 0 where
+  pub whole : opened.broken ≡ false
   pub opens : OpenRuns says start (clock opened.disk) found opened.list
   pub holds : (good : Bool) → WasKept good says (now start) → HoldsOf good says clock opened (found ++ opened.list)
   -- at each moment of the opening one of the two is kept, where the start was

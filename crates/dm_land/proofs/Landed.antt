@@ -243,6 +243,7 @@ module _ {D O : Type 0} (tells : Type 0) (clock : D → Clock) (says : O → Say
       longer = sym (append-nil desk.list);
       moments = subst (λ (h : History). Throughout (clock desk.disk) (clock disk) (Kept good (says desk.origin) (Through before h))) (sym (is.failed whole)) (each_kept (Ok tt) run told good (says desk.origin) before holds);
       holds = subst (HoldsOf good (says desk.origin) clock landed) (sym (append-nil before)) (landed_holds told good (says desk.origin) before says_piece holds);
+      loses = λ was broken. absurd (false≢true (sym whole ∙ broken));
     })
 
     pub landed_keeps : SaysPiece (says desk.origin) desk.items.items pass.id at piece → Keeps tells clock says desk new

@@ -140,6 +140,7 @@ module _ {D O : Type 0} (tells : Type 0) (clock : D → Clock) (says : O → Say
       let folder : Folder = (now (clock new.disk)).files in
       record {
         longer = less.longer;
+        loses = λ was. less.loses (λ broken. absurd (false≢true (sym whole ∙ broken)));
         moments = moments told good before tried holds;
         holds = record {
           items = less.holds.items;
@@ -164,6 +165,7 @@ module _ {D O : Type 0} (tells : Type 0) (clock : D → Clock) (says : O → Say
       let less = goes_less told good before holds in
       record {
         longer = less.longer;
+        loses = λ was. less.loses (λ broken. absurd (false≢true (sym whole ∙ broken)));
         moments = moments told good before tried holds;
         holds = record {
           items = less.holds.items;

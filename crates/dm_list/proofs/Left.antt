@@ -240,6 +240,7 @@ module _ {D O : Type 0} (tells : Type 0) (clock : D → Clock) (counts : D → D
 
   session : tells → IsSession clock (says origin) (clock start) found w.opened w.ended
   session told = record {
+    whole = w.is.whole;
     opens = w.is.runs told;
     holds = w.is.holds told;
     on = w.on told;

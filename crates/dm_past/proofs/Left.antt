@@ -121,6 +121,7 @@ module _ {D O : Type 0} (tells told : Type 0) (clock : D → Clock) (counts : D 
 
   session : tells → IsSession clock (says origin) (clock start) found w.opened w.ended
   session sees = record {
+    whole = w.is.whole;
     opens = w.is.runs sees;
     holds = w.is.holds sees;
     on = w.on sees;

@@ -1,5 +1,6 @@
 -- What a session leaves whose list was opened.
 use Rattle.std.proofs.Common.{◌≡◌, inl, ℕ, ◌+◌, Bool, true, false, [], ◌∷◌, ◌++◌, drop, length, Ok, Err, refl, sym, ◌∙◌, ap, subst, append_assoc, arith}
+use Rattle.std.proofs.lemmas.Bool.{true≢false}
 use Rattle.std.proofs.lemmas.List.{append-nil}
 use Rattle.std.proofs.Math.Seq.{drop-append_seam}
 use Rattle.dm_types.specs.Faults.{NoneFell}
@@ -123,6 +124,12 @@ module _ {D O : Type 0} (found : History) (opened ended : View D O) (of : IsOf (
   all_plain (recorded entries plain becomes) = plain_by entries [] (made_all entries plain becomes)
   all_plain (fell entries entry plain becomes) = plain_by entries (entry ∷ []) (made_fell entries entry plain becomes)
 
+-- a list that broke behind its opening had an entry that failed
+pub fell_by : {D O : Type 0} (opened ended : View D O) → opened.broken ≡ false → Moved opened ended → ended.broken ≡ true → (entry : Entry) × (ended.failed ≡ entry ∷ [])
+fell_by opened ended whole (same is) broken = absurd (true≢false (sym broken ∙ ap (λ (v : View _ _). v.broken) is ∙ whole))
+fell_by opened ended whole (recorded entries plain becomes) broken = absurd (true≢false (sym broken ∙ becomes.broken_is))
+fell_by opened ended whole (fell entries entry plain becomes) broken = (entry, becomes.failed_is)
+
 module _ {D O : Type 0} (tells : Type 0) (clock : D → Clock) (counts : D → DiskKind → ℕ) (far : D → ℕ) (says : O → Says) (origin : O) (at : ℕ) (start : D) (opened left ended : View D O) (origin_is : opened.origin ≡ origin) (limits : opened.limits.items ≡ most_items) (list_limit : opened.items.limit ≡ most_items)
     (is : IsOpened tells clock far (says origin) start at opened) (beside : tells → Besides (IsSettledName clock start) (clock start) (clock opened.disk)) (on : tells → RunsOn (says origin) (clock start) (clock opened.disk) is.found opened.list)
     (opening_later : NoneFell (counts start) (counts opened.disk)) (steps : Steps tells clock counts far says opened ended) (shut_keeps : Keeps tells clock says left ended) where
@@ -143,6 +150,7 @@ module _ {D O : Type 0} (tells : Type 0) (clock : D → Clock) (counts : D → D
 
   session : tells → IsSession clock (says origin) (clock start) found opened ended
   session told = record {
+    whole = is.whole;
     opens = is.runs told;
     holds = is.holds told;
     on = on told;
@@ -199,6 +207,7 @@ module _ {D O : Type 0} (tells : Type 0) (clock : D → Clock) (counts : D → D
       opened_is = is.items;
       limit = list_limit;
       log_is = refl;
+      fell = fell_by opened ended is.whole steps.moved;
       stood = λ told. any_moment _ (clock start) (clock opened.disk) (beside told);
       holds = is.holds;
       turns = closes.turns;

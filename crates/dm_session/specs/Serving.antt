@@ -1,6 +1,7 @@
 -- What a session of the service made of the list and of the history, and how it ended.
-use Rattle.std.specs.Prelude.{◌≡◌, ℕ, ◌≤◌, Bool, true, false, List, [], ◌++◌, length, Result}
+use Rattle.std.specs.Prelude.{◌≡◌, ℕ, ◌≤◌, Bool, true, false, List, [], ◌∷◌, ◌++◌, length, Result}
 use Rattle.dm_types.specs.Limits.{most_items}
+use Rattle.dm_types.specs.declared.entry.Entry.{Entry}
 use Rattle.dm_types.specs.declared.item.Item.{Item}
 use Rattle.dm_types.specs.declared.kinds.DiskKind.{DiskKind}
 use Rattle.dm_types.specs.declared.kinds.DiskKind.TheVariants.{Failed}
@@ -72,6 +73,8 @@ pub record ServesList {D O : Type 0} (tells conns_tell told : Type 0) (moment : 
   pub opened_is : IsOf (log.found ++ log.opening) opened.items
   pub limit : opened.items.limit ≡ most_items
   pub log_is : log ≡ log_of log.found opened ended
+  -- a list that is broken at the end had an entry that failed
+  pub fell : log.broken ≡ true → (entry : Entry) × (log.failed ≡ entry ∷ [])
   -- the list as it was opened stood at some moment, and the disk held it then
   pub stood : tells → Throughout before.disk (clock opened.disk) (λ disk. Unit {0})
   pub holds : tells → (good : Bool) → WasKept good (says origin) (now before.disk) → HoldsOf good (says origin) clock opened (log.found ++ log.opening)

@@ -21,11 +21,11 @@ use Rattle.dm_types.specs.declared.item.Item.{Item}
 use Rattle.dm_item.specs.Lawful.{History, IsOf, items_of}
 use Rattle.dm_item.specs.Listing.{Admits, Listing, Takes, applied}
 use Rattle.dm_item.proofs.Histories.{keeps_step, limit_applied}
-use Rattle.dm_journal.specs.AtRest.{AtRest, WithOrWithout, journal_name, journal_place}
+use Rattle.dm_journal.specs.AtRest.{AtRest, MayLeaveJust, WithOrWithout, journal_name, journal_place}
 use Rattle.dm_part.proofs.Turns.{over_one}
 use Rattle.dm_kept.specs.Files.{Covers, EndsLive, Facts, IfGood, PartsStand, Says, says_all}
 use Rattle.dm_kept.proofs.Entered.{entered_is}
-use Rattle.dm_kept.specs.Kept.{Kept, Sits, StaysKept}
+use Rattle.dm_kept.specs.Kept.{Kept, LeavesJust, Sits, StaysKept}
 use Rattle.dm_kept.specs.Recovery.{Through}
 use Rattle.dm_kept.specs.Room.{MayFollow}
 use Rattle.dm_kept.specs.Spelled.{AllEntries, bodies_of}
@@ -34,7 +34,7 @@ use Rattle.dm_kept.proofs.Histories.{entries_push, follows_more}
 use Rattle.dm_kept.proofs.Listings.{follows_of}
 use Rattle.dm_kept.proofs.Resting as resting
 use Rattle.dm_store.specs.declared.life.Life.{Life}
-use Rattle.dm_store.specs.Keeps.{Allows, Founded, Goes, HoldsOf, IsDesk, Keeps, RecordGoes, RestsBy, SoFar, StandBehind, added}
+use Rattle.dm_store.specs.Keeps.{Allows, Founded, Goes, HoldsOf, IsDesk, Keeps, LosesFailed, RecordGoes, RestsBy, SoFar, StandBehind, added}
 use Rattle.dm_store.specs.Lives.{AreAfter, AreBounded, AreLives, covers_of, lives_after}
 use Rattle.dm_store.specs.View.{View, spelled}
 
@@ -73,6 +73,7 @@ keeps_same {D = D} {O = O} tells clock says old new same = subst (λ (v : View D
       moments = at_start (clock old.disk) (Kept good (says old.origin) (Through before old.failed))
           (rests_by_kept old.broken good (says old.origin) before old.failed old.gate (covers_of old.lives) (now (clock old.disk)) holds.rests);
       holds = subst (HoldsOf good (says old.origin) clock old) (sym (append-nil before)) holds;
+      loses = λ was broken. subst (λ (h : History). LeavesJust h (now (clock old.disk))) (sym (append-nil before)) (was broken);
     })
 
 -- one entry was recorded, or failed
@@ -95,8 +96,9 @@ module _ {D O : Type 0} (tells : Type 0) (clock : D → Clock) (says : O → Say
       resting.moments good (says old.origin) before old.gate (covers_of old.lives) covers (clock old.disk) (clock new.disk) entry is (follows before holds.items) rests (keeps told)
       (owed good before holds.items (λ (items : List Item). Facts (says old.origin) covers items (now (clock old.disk)).files) allows.facts) (only told (bodies_of before) rests.journal)
 
-  pub record_fell : new.broken ≡ true → new.items ≡ old.items → new.list ≡ old.list → new.failed ≡ entry ∷ [] → RecordGoes tells clock says old new entry
-  record_fell broken items list failed told good before holds allows =
+  pub record_fell : new.broken ≡ true → new.items ≡ old.items → new.list ≡ old.list → new.failed ≡ entry ∷ [] → (tells → (bodies : List (List ℕ)) → AtRest (now (clock old.disk)) old.gate bodies → MayLeaveJust bodies (now (clock new.disk)).state)
+      → RecordGoes tells clock says old new entry
+  record_fell broken items list failed lost told good before holds allows =
       let moments = each_moment told good before holds allows in
       subst (λ (h : History). Goes good (says old.origin) clock old new before h) (sym (ap (λ (h : History). drop (length old.list) h) list ∙ drop-length old.list)) (record {
         longer = list ∙ sym (append-nil old.list);
@@ -108,6 +110,8 @@ module _ {D O : Type 0} (tells : Type 0) (clock : D → Clock) (says : O → Say
               (subst (λ (h : History). Kept good (says old.origin) (Through before h) (now (clock new.disk))) (sym failed)
               (at_end (clock old.disk) (clock new.disk) (Kept good (says old.origin) (Through before (entry ∷ []))) moments)));
         };
+        loses = λ was broke. subst (λ (h : History). LeavesJust h (now (clock new.disk))) (sym (append-nil before))
+            (let rests = (at_rest good (says old.origin) clock old before whole holds).rests in resting.bodies_leave before (now (clock new.disk)) rests.entries (lost told (bodies_of before) rests.journal));
       })
 
   pub record_goes : (tells → StandBehind clock old entry) → new.lives ≡ lives_after entry (applied entry old.items) old.lives → new.broken ≡ false → Takes entry old.items new.items → new.list ≡ old.list ++ entry ∷ [] → new.failed ≡ []
@@ -132,6 +136,7 @@ module _ {D O : Type 0} (tells : Type 0) (clock : D → Clock) (says : O → Say
               sits.quiet (subst (λ (items : List Item). PartsStand items folder) (entered_is before entry old.items holds.items may) (stand told))
               (owed good before holds.items (λ (items : List Item). EndsLive covers items folder) allows.ends)));
         };
+        loses = λ was broke. absurd (false≢true (sym broken ∙ broke));
       })
 
 -- What a desk keeps behind a recording.
@@ -219,6 +224,7 @@ goes_then {D = D} {O = O} good said clock old mid new before went failed goes =
           (λ disk. resting.kept_weaker good said (Through (before ++ first) (second ++ new.failed)) (Through before ((first ++ second) ++ new.failed)) disk
           (λ found is. subst (λ (h : History). Through before h found) (sym (append_assoc first second new.failed)) (resting.through_back before first (second ++ new.failed) found is))) goes.moments);
       holds = subst (HoldsOf good said clock new) (append_assoc before first second) goes.holds;
+      loses = λ was broken. subst (λ (h : History). LeavesJust h (now (clock new.disk))) (append_assoc before first second) (goes.loses (went.loses was) broken);
     })
 
 -- So two calls compose.
@@ -230,16 +236,21 @@ keeps_then {D = D} {O = O} tells clock says old mid new one origin failed two to
     goes_then good (says old.origin) clock old mid new before went failed
     (subst (λ (o : O). Goes good (says o) clock mid new (before ++ added old mid) (added mid new)) origin (two told good (before ++ added old mid) held))
 
+-- a desk that isn't broken lost nothing
+pub whole_loses : {D O : Type 0} (tells : Type 0) (clock : D → Clock) (old new : View D O) → new.broken ≡ false → tells → (good : Bool) (said : Says) (before : History) → HoldsOf good said clock old before → LosesFailed clock new before
+whole_loses tells clock old new whole told good said before holds broken = absurd (false≢true (sym whole ∙ broken))
+
 -- A step on the files of a desk, of which it is known what it leaves of each history that the desk holds.
 module _ {D O : Type 0} (tells : Type 0) (clock : D → Clock) (says : O → Says) (old new : View D O) (list : new.list ≡ old.list) (failed : new.failed ≡ [])
     (goes : tells → (good : Bool) (said : Says) (before : History) → HoldsOf good said clock old before → Throughout (clock old.disk) (clock new.disk) (Kept good said (Through before [])) × HoldsOf good said clock new before) where
-  pub step_keeps : Keeps tells clock says old new
-  step_keeps told good before holds =
+  pub step_keeps : (tells → (good : Bool) (said : Says) (before : History) → HoldsOf good said clock old before → LosesFailed clock new before) → Keeps tells clock says old new
+  step_keeps loses told good before holds =
       let both = goes told good (says old.origin) before holds in
       subst (λ (h : History). Goes good (says old.origin) clock old new before h) (sym (ap (λ (h : History). drop (length old.list) h) list ∙ drop-length old.list)) (record {
         longer = list ∙ sym (append-nil old.list);
         moments = subst (λ (h : History). Throughout (clock old.disk) (clock new.disk) (Kept good (says old.origin) (Through before h))) (sym failed) both.0;
         holds = subst (HoldsOf good (says old.origin) clock new) (sym (append-nil before)) both.1;
+        loses = λ was broken. subst (λ (h : History). LeavesJust h (now (clock new.disk))) (sym (append-nil before)) (loses told good (says old.origin) before holds broken);
       })
 
   pub step_desk : IsDesk tells clock old → new.items ≡ old.items → new.lives ≡ old.lives → new.limits ≡ old.limits → (new.broken ≡ false → AreLives new.items.items new.lives) → IsDesk tells clock new
@@ -281,6 +292,8 @@ module _ {D O : Type 0} (tells : Type 0) (clock : D → Clock) (says : O → Say
         (rests_by_kept old.broken good (says old.origin) before old.failed old.gate (covers_of old.lives) (now (clock old.disk)) holds.rests))
         (stays told (says old.origin));
     holds = subst (HoldsOf good (says old.origin) clock (record old { disk = disk })) (sym (append-nil before)) (holds_stays told good (says old.origin) before holds);
+    loses = λ was broken. subst (λ (h : History). LeavesJust h (now (clock disk))) (sym (append-nil before))
+        (resting.leaves_stays before (now (clock old.disk)) (now (clock disk)) (at_end (clock old.disk) (clock disk) (StaysKept (says old.origin) (now (clock old.disk))) (stays told (says old.origin))).state (was broken));
   })
 
   pub files_desk : IsDesk tells clock old → IsDesk tells clock (record old { disk = disk })

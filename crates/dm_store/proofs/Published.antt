@@ -43,7 +43,7 @@ use Rattle.dm_store.specs.Lives.{covers_of}
 use Rattle.dm_store.specs.Publishing.{IsMoving, IsPartOr}
 use Rattle.dm_store.specs.View.{View}
 use Rattle.dm_store.proofs.Found.{There, there_is}
-use Rattle.dm_store.proofs.Keeping.{at_rest, step_desk, step_keeps}
+use Rattle.dm_store.proofs.Keeping.{at_rest, step_desk, step_keeps, whole_loses}
 
 -- a rename takes no file from another name than the old one
 pub rename_leaves : (names : Names) (from to name : List ℕ) → name ≢ from → IsSome (names from) → IsSome (names name) → IsSome (after_change names (Renamed from to) name)
@@ -196,7 +196,7 @@ module _ {D O : Type 0} (tells : Type 0) (clock : D → Clock) (says : O → Say
       each_rests good said before desk.gate (covers_of desk.lives) desk.items holds.items id is_moving.item is_moving.there is_moving.finishing is_moving.name is_moving.name_is (clock desk.disk) (clock disk) (start_sound told) (part_stands told)
       (at_rest good said clock desk before whole holds).rests result (the_run result run)
 
-  -- After a fault it is broken.
+  -- After a fault it is broken, and its journal is as it was.
   fell : (result : Result (Unit {0}) DiskFault) → (tells → InTurn (RenameStep part target) (SyncNamesStep target.area) result (clock desk.disk) (clock disk)) → tells → (good : Bool) (said : Says) (before : History) → HoldsOf good said clock desk before
       → Throughout (clock desk.disk) (clock disk) (Kept good said (Through before [])) × HoldsOf good said clock (record desk { disk = disk; broken = true }) before
   fell result run told good said before holds =
@@ -209,7 +209,11 @@ module _ {D O : Type 0} (tells : Type 0) (clock : D → Clock) (says : O → Say
       )
 
   pub fell_keeps : (result : Result (Unit {0}) DiskFault) → (tells → InTurn (RenameStep part target) (SyncNamesStep target.area) result (clock desk.disk) (clock disk)) → Keeps tells clock says desk (record desk { disk = disk; broken = true })
-  fell_keeps result run = step_keeps tells clock says desk (record desk { disk = disk; broken = true }) refl (is.failed whole) (fell result run)
+  fell_keeps result run =
+      step_keeps tells clock says desk (record desk { disk = disk; broken = true }) refl (is.failed whole) (fell result run)
+      (λ told good said before holds broken.
+      resting.rests_leaves good said before desk.gate (covers_of desk.lives) (now (clock disk)) (sound told (clock disk).moment)
+      (at_end (clock desk.disk) (clock disk) (Rests good said before desk.gate (covers_of desk.lives)) (rests_each result told (run told) good said before holds)))
 
   pub fell_desk : (result : Result (Unit {0}) DiskFault) → (tells → InTurn (RenameStep part target) (SyncNamesStep target.area) result (clock desk.disk) (clock disk)) → IsDesk tells clock (record desk { disk = disk; broken = true })
   fell_desk result run =
@@ -237,7 +241,7 @@ module _ {D O : Type 0} (tells : Type 0) (clock : D → Clock) (says : O → Say
     )
 
     pub named_keeps : Keeps tells clock says desk (record desk { disk = disk })
-    named_keeps = step_keeps tells clock says desk (record desk { disk = disk }) refl (is.failed whole) named
+    named_keeps = step_keeps tells clock says desk (record desk { disk = disk }) refl (is.failed whole) named (whole_loses tells clock desk (record desk { disk = disk }) whole)
 
     pub named_desk : IsDesk tells clock (record desk { disk = disk })
     named_desk = step_desk tells clock says desk (record desk { disk = disk }) refl (is.failed whole) named is refl refl refl (λ unbroken. is.lives whole)

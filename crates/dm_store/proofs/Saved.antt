@@ -61,7 +61,7 @@ use Rattle.dm_store.specs.Lives.{AreAfter, AreLives, IsLifeFor, IsLifeOf, LifeOf
 use Rattle.dm_store.specs.Saving.{IsSaving}
 use Rattle.dm_store.specs.View.{View}
 use Rattle.dm_store.proofs.Found.{There, there_is}
-use Rattle.dm_store.proofs.Keeping.{at_rest, goes_then, keeps_then, step_desk, step_keeps}
+use Rattle.dm_store.proofs.Keeping.{at_rest, goes_then, keeps_then, step_desk, step_keeps, whole_loses}
 use Rattle.dm_store.proofs.Lives.{changed_other, changed_own}
 
 -- Of the cover that is saved.
@@ -335,7 +335,7 @@ module _ {D O : Type 0} (tells : Type 0) (clock : D → Clock) (says : O → Say
     )
 
     pub synced_keeps : Keeps tells clock says desk (record desk { disk = disk })
-    synced_keeps = step_keeps tells clock says desk (record desk { disk = disk }) refl (is.failed whole) goes
+    synced_keeps = step_keeps tells clock says desk (record desk { disk = disk }) refl (is.failed whole) goes (whole_loses tells clock desk (record desk { disk = disk }) whole)
 
     pub synced_desk : IsDesk tells clock (record desk { disk = disk })
     synced_desk = step_desk tells clock says desk (record desk { disk = disk }) refl (is.failed whole) goes is refl refl refl (λ unbroken. is.lives whole)

@@ -7,7 +7,7 @@ use Rattle.dm_disk_model.specs.Moments.{Throughout}
 use Rattle.dm_item.specs.Lawful.{History, IsOf}
 use Rattle.dm_item.specs.Listing.{applied}
 use Rattle.dm_kept.specs.Files.{Covers, EndsLive, Facts, IfGood, PartsStand, Says, says_all}
-use Rattle.dm_kept.specs.Kept.{Kept, Sits}
+use Rattle.dm_kept.specs.Kept.{Kept, LeavesJust, Sits}
 use Rattle.dm_kept.specs.Recovery.{Through}
 use Rattle.dm_kept.specs.Spelled.{AllEntries}
 use Rattle.dm_store.specs.Lives.{AreBounded, AreLives, covers_of, lives_after}
@@ -45,12 +45,17 @@ pub record IsDesk {D O : Type 0} (tells : Type 0) (clock : D → Clock) (desk : 
 abbrev pub added : {D O : Type 0} → View D O → View D O → History
 added old new = drop (length old.list) new.list
 
+-- Of a broken desk some crash leaves just this history: what failed isn't in it.
+abbrev pub LosesFailed : {D O : Type 0} → (D → Clock) → View D O → History → Type 0
+LosesFailed clock desk history = desk.broken ≡ true → LeavesJust history (now (clock desk.disk))
+
 -- From this history on these entries were recorded. A crash at each moment leaves it with some of them behind it, or with the failed one
--- too, and then the desk holds it with all of them.
+-- too, and then the desk holds it with all of them. Where the desk broke, some crash leaves it with just these.
 pub record Goes {D O : Type 0} (good : Bool) (says : Says) (clock : D → Clock) (old new : View D O) (before recorded : History) : Type 0 where
   pub longer : new.list ≡ old.list ++ recorded
   pub moments : Throughout (clock old.disk) (clock new.disk) (Kept good says (Through before (recorded ++ new.failed)))
   pub holds : HoldsOf good says clock new (before ++ recorded)
+  pub loses : LosesFailed clock old before → LosesFailed clock new (before ++ recorded)
 
 -- The clause of every call on a desk: so from each history that it holds.
 abbrev pub Keeps : {D O : Type 0} → Type 0 → (D → Clock) → (O → Says) → View D O → View D O → Type 0

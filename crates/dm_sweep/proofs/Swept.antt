@@ -29,7 +29,7 @@ use Rattle.dm_kept.proofs.Resting as resting
 use Rattle.dm_store.specs.Keeps.{HoldsOf, IsDesk, Keeps, RestsBy}
 use Rattle.dm_store.specs.Lives.{covers_of}
 use Rattle.dm_store.specs.View.{View}
-use Rattle.dm_store.proofs.Keeping.{at_rest, step_desk, step_keeps}
+use Rattle.dm_store.proofs.Keeping.{at_rest, step_desk, step_keeps, whole_loses}
 use Rattle.dm_answers.specs.Sweep.{IsLeftover}
 use Rattle.dm_sweep.proofs.Leftovers.{is_elsewhere, is_left}
 
@@ -111,7 +111,7 @@ module _ {D O : Type 0} (tells : Type 0) (clock : D → Clock) (says : O → Say
       )
 
   pub swept_keeps : Keeps tells clock says desk (record desk { disk = disk })
-  swept_keeps = step_keeps tells clock says desk (record desk { disk = disk }) refl (is.failed whole) goes
+  swept_keeps = step_keeps tells clock says desk (record desk { disk = disk }) refl (is.failed whole) goes (whole_loses tells clock desk (record desk { disk = disk }) whole)
 
   pub swept_desk : IsDesk tells clock (record desk { disk = disk })
   swept_desk = step_desk tells clock says desk (record desk { disk = disk }) refl (is.failed whole) goes is refl refl refl (λ unbroken. is.lives whole)

@@ -90,7 +90,7 @@ returns-in-Err-append-clause-keeps g c =
     c.append.new.self (λ told bodies rest. subst (λ (body : List ℕ). AtRest (now (g.D.Disk.history c.append.new.disk)) c.append.new.self (bodies ++ body ∷ [])) c.requires.body (c.in-Ok.ensures.acknowledged told bodies rest))
     _ c.write_broke-broke.ensures.entry c.append-in-Ok.ensures.beside (λ told bodies rest. subst (λ (body : List ℕ). LeavesOnly (g.D.Disk.history c.append.new.disk) (g.D.Disk.history c.append-in-Ok.new.disk) (WithOrWithout bodies body)) c.write_broke-broke.ensures.bytes (c.append-in-Ok.ensures.any_moment told bodies rest)) refl
     (c.put.ensures.value ∙ ap (λ (e : Entry). applied e c.args.store.now.items) c.began_entry-began.ensures)
-    (c.push_reserved.ensures.items ∙ ap (λ (e : Entry). c.args.store.now.list.items ++ e ∷ []) c.began_entry-began.ensures) (ap list_of c.put_failed.ensures) refl
+    (c.push_reserved.ensures.items ∙ ap (λ (e : Entry). c.args.store.now.list.items ++ e ∷ []) c.began_entry-began.ensures) (ap list_of c.put_failed.ensures) refl (λ told bodies rest. c.in-Err-append.ensures.lost told bodies rest)
 
 pub returns-in-Err-append-clause-store : goal.returns-in-Err-append-clause-store
 returns-in-Err-append-clause-store g c = record {
@@ -99,7 +99,7 @@ returns-in-Err-append-clause-store g c = record {
       c.append.new.self (λ told bodies rest. subst (λ (body : List ℕ). AtRest (now (g.D.Disk.history c.append.new.disk)) c.append.new.self (bodies ++ body ∷ [])) c.requires.body (c.in-Ok.ensures.acknowledged told bodies rest))
       _ c.write_broke-broke.ensures.entry c.append-in-Ok.ensures.beside (λ told bodies rest. subst (λ (body : List ℕ). LeavesOnly (g.D.Disk.history c.append.new.disk) (g.D.Disk.history c.append-in-Ok.new.disk) (WithOrWithout bodies body)) c.write_broke-broke.ensures.bytes (c.append-in-Ok.ensures.any_moment told bodies rest)) refl
       (c.put.ensures.value ∙ ap (λ (e : Entry). applied e c.args.store.now.items) c.began_entry-began.ensures)
-      (c.push_reserved.ensures.items ∙ ap (λ (e : Entry). c.args.store.now.list.items ++ e ∷ []) c.began_entry-began.ensures) (ap list_of c.put_failed.ensures) refl
+      (c.push_reserved.ensures.items ∙ ap (λ (e : Entry). c.args.store.now.list.items ++ e ∷ []) c.began_entry-began.ensures) (ap list_of c.put_failed.ensures) refl (λ told bodies rest. c.in-Err-append.ensures.lost told bodies rest)
       (subst (AreBounded (c.args.store.now.limits.checkpoint + c.args.store.now.limits.piece)) (sym (c.push_reserved-in-Err-append.ensures.items ∙ ap (λ (found : Option Life). with_life found c.args.store.now.lives.items) c.requires.life))
       (bounded_after (began_of c.args.what) (applied (began_of c.args.what) c.args.store.now.items) (c.args.store.now.limits.checkpoint + c.args.store.now.limits.piece) c.args.store.now.lives.items (positive c.requires.store.desk.limits_are) refl c.requires.store.desk.bounded));
   room =
@@ -141,7 +141,7 @@ returns-in-Err-clause-keeps g c told good before holds =
     record_fell g.D.Disk.tells g.D.Disk.history (λ o. said_of (g.O.Origin.says o)) (view_of c.args.store.now) _ (began_of c.args.what) c.requires.is c.requires.taken
     (few_items g.D.Disk.tells g.D.Disk.history (view_of c.args.store.now) c.requires.store.desk) c.requires.whole c.append.ensures.beside
     (λ told bodies rest. subst (λ (body : List ℕ). LeavesOnly (g.D.Disk.history c.args.store.now.disk) (g.D.Disk.history c.append.new.disk) (WithOrWithout bodies body)) c.requires.body (c.append.ensures.any_moment told bodies rest))
-    refl refl refl (ap list_of c.put_failed-in-Err.ensures ∙ ap (λ (e : Entry). e ∷ []) c.began_entry-began.ensures)
+    refl refl refl (ap list_of c.put_failed-in-Err.ensures ∙ ap (λ (e : Entry). e ∷ []) c.began_entry-began.ensures) (λ told bodies rest. c.in-Err.ensures.lost told bodies rest)
     told good before holds (began_allows g.D.Disk.tells g.D.Disk.history (λ o. said_of (g.O.Origin.says o)) (view_of c.args.store.now) c.requires.store.desk c.requires.whole c.args.what.id c.args.what.attempt c.args.what.by c.args.what.at c.requires.taken good before holds)
 
 pub returns-in-Err-clause-store : goal.returns-in-Err-clause-store
@@ -150,7 +150,7 @@ returns-in-Err-clause-store g c = record {
       (record_fell g.D.Disk.tells g.D.Disk.history (λ o. said_of (g.O.Origin.says o)) (view_of c.args.store.now) _ (began_of c.args.what) c.requires.is c.requires.taken
       (few_items g.D.Disk.tells g.D.Disk.history (view_of c.args.store.now) c.requires.store.desk) c.requires.whole c.append.ensures.beside
       (λ told bodies rest. subst (λ (body : List ℕ). LeavesOnly (g.D.Disk.history c.args.store.now.disk) (g.D.Disk.history c.append.new.disk) (WithOrWithout bodies body)) c.requires.body (c.append.ensures.any_moment told bodies rest))
-      refl refl refl (ap list_of c.put_failed-in-Err.ensures ∙ ap (λ (e : Entry). e ∷ []) c.began_entry-began.ensures))
+      refl refl refl (ap list_of c.put_failed-in-Err.ensures ∙ ap (λ (e : Entry). e ∷ []) c.began_entry-began.ensures) (λ told bodies rest. c.in-Err.ensures.lost told bodies rest))
       refl refl refl refl;
   room = c.requires.store.room;
 }

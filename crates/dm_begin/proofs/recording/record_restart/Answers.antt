@@ -74,7 +74,7 @@ returns-clause-keeps g c told good before holds =
     record_fell g.D.Disk.tells g.D.Disk.history (λ o. said_of (g.O.Origin.says o)) (view_of c.args.store.now) _ (restart_by c.args.pass c.args.because) c.requires.readied.is c.requires.taken
     (few_items g.D.Disk.tells g.D.Disk.history (view_of c.args.store.now) c.requires.store.desk) c.requires.whole c.append.ensures.beside
     (λ told bodies rest. subst (λ (body : List ℕ). LeavesOnly start end (WithOrWithout bodies body)) (c.bytes.ensures ∙ c.requires.readied.body) (c.append.ensures.any_moment told bodies rest))
-    refl refl refl (ap list_of c.put_failed.ensures)
+    refl refl refl (ap list_of c.put_failed.ensures) (λ told bodies rest. c.in-Err.ensures.lost told bodies rest)
     told good before holds
     (idle_allows g.D.Disk.tells g.D.Disk.history (λ o. said_of (g.O.Origin.says o)) (view_of c.args.store.now) c.requires.store.desk c.requires.whole (restart_by c.args.pass c.args.because) refl c.requires.taken good before holds)
 

@@ -93,7 +93,7 @@ returns-in-Err-clause-keeps g c =
     (record_fell g.D.Disk.tells g.D.Disk.history (λ o. said_of (g.O.Origin.says o)) (view_of c.args.store.now) _ c.args.entry c.requires.is c.requires.taken
     (few_items g.D.Disk.tells g.D.Disk.history (view_of c.args.store.now) c.requires.store.desk) c.requires.whole c.append.ensures.beside
     (λ told bodies rest. subst (λ (body : List ℕ). LeavesOnly (g.D.Disk.history c.args.store.now.disk) (g.D.Disk.history c.append.new.disk) (WithOrWithout bodies body)) c.requires.body (c.append.ensures.any_moment told bodies rest))
-    refl (c.take_back.ensures (record { older = c.args.store.now.items; entry = c.args.entry; one_item = new_one c.args.entry c.requires.added; was = c.in-Ok.ensures; takes = c.in-Ok-apply.ensures.ok })) refl (ap list_of c.put_failed.ensures))
+    refl (c.take_back.ensures (record { older = c.args.store.now.items; entry = c.args.entry; one_item = new_one c.args.entry c.requires.added; was = c.in-Ok.ensures; takes = c.in-Ok-apply.ensures.ok })) refl (ap list_of c.put_failed.ensures) (λ told bodies rest. c.in-Err.ensures.lost told bodies rest))
 
 pub returns-in-Err-clause-store : goal.returns-in-Err-clause-store
 returns-in-Err-clause-store g c = record {
@@ -101,7 +101,7 @@ returns-in-Err-clause-store g c = record {
       (record_fell g.D.Disk.tells g.D.Disk.history (λ o. said_of (g.O.Origin.says o)) (view_of c.args.store.now) _ c.args.entry c.requires.is c.requires.taken
       (few_items g.D.Disk.tells g.D.Disk.history (view_of c.args.store.now) c.requires.store.desk) c.requires.whole c.append.ensures.beside
       (λ told bodies rest. subst (λ (body : List ℕ). LeavesOnly (g.D.Disk.history c.args.store.now.disk) (g.D.Disk.history c.append.new.disk) (WithOrWithout bodies body)) c.requires.body (c.append.ensures.any_moment told bodies rest))
-      refl (c.take_back.ensures (record { older = c.args.store.now.items; entry = c.args.entry; one_item = new_one c.args.entry c.requires.added; was = c.in-Ok.ensures; takes = c.in-Ok-apply.ensures.ok })) refl (ap list_of c.put_failed.ensures))
+      refl (c.take_back.ensures (record { older = c.args.store.now.items; entry = c.args.entry; one_item = new_one c.args.entry c.requires.added; was = c.in-Ok.ensures; takes = c.in-Ok-apply.ensures.ok })) refl (ap list_of c.put_failed.ensures) (λ told bodies rest. c.in-Err.ensures.lost told bodies rest))
       (c.take_back.ensures (record { older = c.args.store.now.items; entry = c.args.entry; one_item = new_one c.args.entry c.requires.added; was = c.in-Ok.ensures; takes = c.in-Ok-apply.ensures.ok })) refl refl refl;
   room = c.requires.store.room;
 }

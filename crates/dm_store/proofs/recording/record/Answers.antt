@@ -75,7 +75,7 @@ returns-in-Err-clause-goes g c =
     record_fell g.D.Disk.tells g.D.Disk.history (λ o. said_of (g.O.Origin.says o)) (view_of c.args.store.now) _ c.args.entry c.requires.is c.requires.taken
     (few_items g.D.Disk.tells g.D.Disk.history (view_of c.args.store.now) c.requires.store.desk) c.requires.whole c.append.ensures.beside
     (λ told bodies rest. subst (λ (body : List ℕ). LeavesOnly start end (WithOrWithout bodies body)) c.requires.body (c.append.ensures.any_moment told bodies rest))
-    refl refl refl (ap list_of c.put_failed.ensures)
+    refl refl refl (ap list_of c.put_failed.ensures) (λ told bodies rest. c.in-Err.ensures.lost told bodies rest)
 
 pub returns-in-Err-clause-store : goal.returns-in-Err-clause-store
 returns-in-Err-clause-store g c = record {
