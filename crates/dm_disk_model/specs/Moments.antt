@@ -18,10 +18,6 @@ LeavesOnly old new P = Throughout old new (λ disk. (image : Image) → MayLeave
 abbrev pub KeepsFiles : History → History → Type 0
 KeepsFiles old new = Throughout old new (λ disk. disk.files ≡ (now old).files)
 
--- the same of the journal's folder
-abbrev pub KeepsState : History → History → Type 0
-KeepsState old new = Throughout old new (λ disk. disk.state ≡ (now old).state)
-
 -- Whatever is done at one place: every other place reads as before, and a name that never stands stays so at each moment.
 pub record KeepsOthers (place : Place) (old new : History) : Type 0 where
   pub others : ChangesOnly place (now old) (now new)

@@ -10,6 +10,7 @@ pub mod Shorts
 pub mod Lasting
 pub mod Undoing
 pub mod Declined
+pub mod Each
 pub mod Readied
 pub mod Applied
 pub mod Restarts

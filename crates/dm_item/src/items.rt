@@ -443,16 +443,12 @@ fn find_word(word: &[u8], items: &[Item]) -> Option<ItemId>
     ensures some { IfSome result (IsWordOf word.now items.now) }
     ensures none { IfNone result (HasNoWord word.now items.now) }
 {
-    match items {
-        [] => None,
-        [item, rest @ ..] => {
-            if item.word.is(word) {
-                Some(item.id)
-            } else {
-                find_word(word, rest)
-            }
+    for item in items {
+        if item.word.is(word) {
+            return Some(item.id);
         }
     }
+    None
 }
 
 /// Whether a Reopened may tell this next id: the one that is next, or any from 1 on where it is the

@@ -1,4 +1,4 @@
-ghost use Rattle.std.specs.Prelude.{◌≡◌, ◌↔◌, IsTrue};
+ghost use Rattle.std.specs.Prelude.{◌≡◌, ◌≢◌, ◌↔◌, IsTrue, false};
 ghost use Rattle.dm_item.specs.Row.{HasName, IsFreeName, is_cancelled};
 ghost use Rattle.dm_item.specs.Words.{HasNoWord, IsFreeWord};
 ghost use Rattle.dm_item.specs.Restored.{HasOwnName, IsAbove, IsApartFrom};
@@ -9,13 +9,14 @@ use dm_types::{Item, ItemId, Phase, same_folded};
 pub(crate) fn is_free_name(id: ItemId, name: &[u8], items: &[Item]) -> bool
     ensures { IsTrue result ↔ IsFreeName id.0 name.now items.now }
 {
-    match items {
-        [] => true,
-        [item, rest @ ..] => {
-            (item.id == id || item.phase == Phase::Cancelled || !has_name(item, name))
-                && is_free_name(id, name, rest)
-        }
-    }
+    items.iter().all(|item| leaves_name(id, name, item))
+}
+
+/// Whether the item has this id, or is cancelled, or has another name.
+fn leaves_name(id: ItemId, name: &[u8], item: &Item) -> bool
+    ensures { IsTrue result ↔ (item.now.id.0 ≢ id.0 → is_cancelled item.now.phase ≡ false → ¬ HasName item.now name.now) }
+{
+    item.id == id || item.phase == Phase::Cancelled || !has_name(item, name)
 }
 
 /// Whether the item has a name that is the same in ASCII case folding.
@@ -39,30 +40,21 @@ pub(crate) fn is_free_word(word: &[u8], items: &[Item]) -> bool
 fn has_no_word(word: &[u8], items: &[Item]) -> bool
     ensures { IsTrue result ↔ HasNoWord word.now items.now }
 {
-    match items {
-        [] => true,
-        [item, rest @ ..] => !item.word.is(word) && has_no_word(word, rest),
-    }
+    items.iter().all(|item| !item.word.is(word))
 }
 
 /// Whether the id is above those of all items.
 pub(crate) fn is_above(id: ItemId, items: &[Item]) -> bool
     ensures { IsTrue result ↔ IsAbove id.0 items.now }
 {
-    match items {
-        [] => true,
-        [item, rest @ ..] => item.id.0 < id.0 && is_above(id, rest),
-    }
+    items.iter().all(|item| item.id.0 < id.0)
 }
 
 /// Whether no item has the name of this one, where neither is cancelled.
 pub(crate) fn has_own_name(item: &Item, items: &[Item]) -> bool
     ensures { IsTrue result ↔ HasOwnName item.now items.now }
 {
-    match items {
-        [] => true,
-        [other, rest @ ..] => is_apart_from(item, other) && has_own_name(item, rest),
-    }
+    items.iter().all(|other| is_apart_from(item, other))
 }
 
 /// Whether the names of two items differ, where both have one and neither is cancelled.

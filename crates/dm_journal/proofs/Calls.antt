@@ -35,7 +35,7 @@ pub record Opened (bodies : List (List ℕ)) (body : List ℕ) (disk : DiskState
   pub has : HasFile disk.state journal_name file
   pub torn : IsTorn (length (front bodies)) 1 (settled_file (opening bodies body gate rest)) file
 
-kept_at_rest : (bodies : List (List ℕ)) (disk : DiskState) (gate : ℕ) → AtRest disk gate bodies → Kept bodies disk
+pub kept_at_rest : (bodies : List (List ℕ)) (disk : DiskState) (gate : ℕ) → AtRest disk gate bodies → Kept bodies disk
 kept_at_rest bodies disk gate rest = record { file = settled_file rest.bytes; has = rest.file; keeps = front_settled bodies rest.bytes rest.text }
 
 kept_leaves : (bodies : List (List ℕ)) (body : List ℕ) (disk : DiskState) → Kept bodies disk → (image : Image) → MayLeave disk image → WithOrWithout bodies body image
@@ -64,7 +64,7 @@ written : (disk new : DiskState) (file : File) (at : ℕ) (piece : List ℕ) →
     → Stepped new.state journal_name (IsWritten at piece) file
 written disk new file at piece has step = steps disk.state new.state journal_name (IsWritten at piece) file has step.0
 
-kept_write : (bodies : List (List ℕ)) (at : ℕ) (piece : List ℕ) (result : Result (Unit {0}) DiskFault) (disk new : DiskState) → at ≡ length (front bodies) + 1
+pub kept_write : (bodies : List (List ℕ)) (at : ℕ) (piece : List ℕ) (result : Result (Unit {0}) DiskFault) (disk new : DiskState) → at ≡ length (front bodies) + 1
     → Kept bodies disk → WriteStep journal_place at piece result disk new → Kept bodies new
 kept_write bodies at piece (Ok done) disk new is kept step =
     let moved = steps disk.state new.state journal_name (IsWritten at piece) kept.file kept.has step.0 in
@@ -74,7 +74,7 @@ kept_write bodies at piece (Err fault) disk new is kept (inl step) =
     record { file = moved.after; has = moved.has; keeps = front_torn bodies at (length piece) kept.file moved.after is kept.keeps moved.stepped }
 kept_write bodies at piece (Err fault) disk new is kept (inr same) = subst (Kept bodies) (sym same) kept
 
-opened_write : (bodies : List (List ℕ)) (body : List ℕ) (gate : ℕ) (rest : List ℕ) (result : Result (Unit {0}) DiskFault) (disk new : DiskState)
+pub opened_write : (bodies : List (List ℕ)) (body : List ℕ) (gate : ℕ) (rest : List ℕ) (result : Result (Unit {0}) DiskFault) (disk new : DiskState)
     → HasFile disk.state journal_name (settled_file (opening bodies body gate rest)) → WriteStep journal_place (length (front bodies)) (1 ∷ []) result disk new
     → Opened bodies body new ⊎ (new ≡ disk)
 opened_write bodies body gate rest (Ok done) disk new has step =
@@ -147,6 +147,7 @@ module _ (bodies : List (List ℕ)) (body : List ℕ) (start : History) (gate : 
     pub so_far : LeavesOnly start present (WithOrWithout bodies body)
     pub sizes : AllFit bodies
     pub shut : ℕ
+    pub is_shut : shut ≢ 1
     pub rest : List ℕ
     pub has : HasFile (now present).state journal_name (settled_file (opening bodies body shut rest))
 
@@ -156,6 +157,7 @@ module _ (bodies : List (List ℕ)) (body : List ℕ) (start : History) (gate : 
     pub sizes : AllFit bodies
     pub rest : List ℕ
     pub reads : ReadsAs (opening bodies body 1 rest) (now present)
+    pub opened : Opened bodies body (now present)
 
   pub start_good : AtRest (now start) gate bodies → Good (now start)
   start_good rest = kept_leaves bodies body (now start) (kept_at_rest bodies (now start) gate rest)
@@ -209,6 +211,7 @@ module _ (bodies : List (List ℕ)) (body : List ℕ) (start : History) (gate : 
             (over_call old new Good (SyncStep journal_place (Ok tt)) next (kept_leaves bodies body (now old) filled.kept) (kept_leaves bodies body (now new) kept));
         sizes = filled.kept.keeps.sizes;
         shut = filled.shut;
+        is_shut = filled.is_shut;
         rest = filled.rest;
         has = has;
       }
@@ -238,6 +241,7 @@ module _ (bodies : List (List ℕ)) (body : List ℕ) (start : History) (gate : 
         sizes = ready.sizes;
         rest = ready.rest;
         reads = record { file = moved.after; has = moved.has; is = bytes };
+        opened = record { gate = ready.shut; rest = ready.rest; file = moved.after; has = moved.has; torn = written_is_torn (length (front bodies)) (1 ∷ []) was moved.after moved.stepped };
       }
 
   pub keep_failed : (fault : DiskFault) (old new : History) → Open old → Next old new (SyncStep journal_place (Err fault)) → LeavesOnly start new (WithOrWithout bodies body)

@@ -3,6 +3,7 @@ pub mod Beginning
 pub mod Calls
 pub mod Fewer
 pub mod Fronts
+pub mod Losing
 pub mod Others
 pub mod Resting
 pub mod Settling

@@ -4,6 +4,7 @@ use Rattle.dm_disk_model.specs.declared.place.Area.TheVariants.{State}
 use Rattle.dm_disk_model.specs.declared.place.Place.{Place}
 use Rattle.dm_disk_model.specs.Firm.{HasFile}
 use Rattle.dm_disk_model.specs.File.{settled_file}
+use Rattle.dm_disk_model.specs.Folder.{Contents, Folder, FolderLeaves}
 use Rattle.dm_disk_model.specs.Disk.{DiskState, Image, bytes_at}
 use Rattle.dm_journal.specs.Text.{IsJournalText, front, in_four}
 
@@ -30,6 +31,14 @@ pub record HasJournal (bodies : List (List ℕ)) (image : Image) : Type 0 where
 -- with the body at the end or without it
 abbrev pub WithOrWithout : List (List ℕ) → List ℕ → Image → Type 0
 WithOrWithout bodies body image = HasJournal bodies image ⊎ HasJournal (bodies ++ body ∷ []) image
+
+-- Some crash leaves the journal with just these bodies. It is said of the folder of the state alone.
+pub record MayLeaveJust (bodies : List (List ℕ)) (folder : Folder) : Type 0 where
+  pub left : Contents
+  pub leaves : FolderLeaves folder left
+  pub bytes : List ℕ
+  pub found : left journal_name ≡ Some bytes
+  pub text : IsJournalText bodies bytes
 
 -- what is written behind a closed gate: the length, the body, and the next gate, closed
 abbrev pub cell_tail : List ℕ → List ℕ

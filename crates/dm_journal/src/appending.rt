@@ -1,10 +1,10 @@
-ghost use Rattle.std.specs.Prelude.{◌≡◌, ◌+◌, ◌^◌, ◌<◌, ◌≤◌, ◌++◌, ◌∷◌, [], List, ℕ, length, OnOk};
+ghost use Rattle.std.specs.Prelude.{◌≡◌, ◌+◌, ◌^◌, ◌<◌, ◌≤◌, ◌++◌, ◌∷◌, [], List, ℕ, length, OnErr, OnOk};
 ghost use Rattle.dm_types.specs.Faults.{HasCause};
 ghost use Rattle.dm_disk_model.specs.Faults.{disk_kind};
 ghost use Rattle.dm_disk_model.specs.Disk.{now, Stands, ChangesOnly};
 ghost use Rattle.dm_disk_model.specs.Moments.{LeavesOnly, KeepsFiles};
 ghost use Rattle.dm_journal.specs.Text.{FitsCell};
-ghost use Rattle.dm_journal.specs.AtRest.{journal_place, AtRest, ReadsJournal, WithOrWithout, cell_tail};
+ghost use Rattle.dm_journal.specs.AtRest.{journal_place, AtRest, MayLeaveJust, ReadsJournal, WithOrWithout, cell_tail};
 
 use dm_disk_model::{Disk, DiskFault, Place};
 
@@ -25,6 +25,8 @@ pub(crate) fn write_cell<D: Disk>(
         → AtRest (now (D.history disk.old)) gate bodies → OnOk result (AtRest (now (D.history disk.new)) (gate + (5 + length body)) (bodies ++ body ∷ [])) }
     ensures read { D.tells → (bodies : List (List ℕ)) (body : List ℕ) → FitsCell body → tail.now ≡ cell_tail body
         → ReadsJournal (now (D.history disk.old)) gate bodies → OnOk result (ReadsJournal (now (D.history disk.new)) (gate + (5 + length body)) (bodies ++ body ∷ [])) }
+    ensures lost { D.tells → (bodies : List (List ℕ)) (body : List ℕ) → FitsCell body → tail.now ≡ cell_tail body
+        → AtRest (now (D.history disk.old)) gate bodies → OnErr result (MayLeaveJust bodies (now (D.history disk.new)).state) }
     ensures others { D.tells → ChangesOnly journal_place (now (D.history disk.old)) (now (D.history disk.new)) }
     ensures beside { D.tells → KeepsFiles (D.history disk.old) (D.history disk.new) }
     ensures near { OnOk result (gate + 1 + length tail.now < 2 ^ 63) }

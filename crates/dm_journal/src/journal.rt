@@ -11,7 +11,7 @@ ghost use Rattle.dm_journal.specs.Finding.{Finds, IsAsRead, IsBehind};
 ghost use Rattle.dm_journal.specs.InMemory.{IsRoom, state_place};
 ghost use Rattle.dm_journal.specs.Starting.{spare_place, OldOr, NoneOrBlank, ChangesTheTwo};
 ghost use Rattle.dm_journal.specs.Text.{FitsCell, header, largest_tail};
-ghost use Rattle.dm_journal.specs.AtRest.{journal_place, AtRest, ReadsJournal, WithOrWithout, cell_tail};
+ghost use Rattle.dm_journal.specs.AtRest.{journal_place, AtRest, MayLeaveJust, ReadsJournal, WithOrWithout, cell_tail};
 
 use crate::appending::write_cell;
 use crate::cell::LARGEST_BODY;
@@ -138,6 +138,10 @@ impl Journal {
             → OnOk result (AtRest (now (D.history disk.new)) self.new (bodies ++ body.now ∷ [])) }
         ensures read { D.tells → (bodies : List (List ℕ)) → ReadsJournal (now (D.history disk.old)) self.old bodies
             → OnOk result (ReadsJournal (now (D.history disk.new)) self.new (bodies ++ body.now ∷ [])) }
+
+        // Where it fails, some crash leaves just the bodies from before it.
+        ensures lost { D.tells → (bodies : List (List ℕ)) → AtRest (now (D.history disk.old)) self.old bodies
+            → OnErr result (MayLeaveJust bodies (now (D.history disk.new)).state) }
         ensures others { D.tells → ChangesOnly journal_place (now (D.history disk.old)) (now (D.history disk.new)) }
         ensures beside { D.tells → KeepsFiles (D.history disk.old) (D.history disk.new) }
         ensures ok { OnOk result (self.new ≡ self.old + (5 + length body.now)) }

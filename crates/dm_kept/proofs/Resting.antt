@@ -13,7 +13,8 @@ use Rattle.dm_disk_model.proofs.Reaching.{both, weaker}
 use Rattle.dm_record.specs.Spelling.{spelling_of}
 use Rattle.dm_record.specs.Limits.{IsEntry}
 use Rattle.dm_item.specs.Lawful.{History, items_of}
-use Rattle.dm_journal.specs.AtRest.{AtRest, HasJournal, WithOrWithout, journal_name}
+use Rattle.dm_journal.specs.AtRest.{AtRest, HasJournal, MayLeaveJust, WithOrWithout, journal_name}
+use Rattle.dm_journal.proofs.Losing.{rest_leaves_just}
 use Rattle.dm_kept.specs.Recovery.{Found, Through, recovered}
 use Rattle.dm_kept.specs.Room.{IsTaken, MayFollow}
 use Rattle.dm_types.specs.Limits.{most_items}
@@ -23,7 +24,7 @@ use Rattle.dm_kept.proofs.Images.{at_first, at_second, journal_recorded, rest_im
 use Rattle.dm_types.specs.Name.{IsPart, part_name}
 use Rattle.dm_disk_model.specs.Beside.{IsFirmBut}
 use Rattle.dm_kept.specs.Files.{Covers, EndsLive, Facts, IfGood, PartsStand, Says, Sound, no_covers}
-use Rattle.dm_kept.specs.Kept.{IsKeptNow, Kept, Recovers, Rests, Sits, StaysKept, WasKept}
+use Rattle.dm_kept.specs.Kept.{IsKeptNow, Kept, LeavesJust, Recovers, Rests, Sits, StaysKept, WasKept}
 use Rattle.dm_kept.proofs.Flags.{if_is, if_map}
 use Rattle.dm_kept.proofs.FilesKept.{facts_saved, facts_sound}
 
@@ -196,3 +197,21 @@ pub kept_less : (good : Bool) (says : Says) (P : Found → Type 0) (disk : DiskS
 kept_less true says P disk kept = kept
 kept_less false says P disk kept = λ image left.
     let is = kept image left in record { history = is.history; recorded = is.recorded; taken = is.taken; items = is.items; facts = tt; sound = tt }
+
+-- What some crash leaves alone.
+
+-- where it leaves the journal with just the bodies of a history
+pub bodies_leave : (history : History) (disk : DiskState) → AllEntries history → MayLeaveJust (bodies_of history) disk.state → LeavesJust history disk
+bodies_leave history disk entries just = record {
+  left = just.left;
+  leaves = just.leaves;
+  records = subst (λ (found : Option (List ℕ)). Records found history) (sym just.found) (record { entries = entries; text = just.text });
+}
+
+-- a journal at rest
+pub rests_leaves : (good : Bool) (says : Says) (history : History) (gate : ℕ) (covers : Covers) (disk : DiskState) → IsSoundDisk disk → Rests good says history gate covers disk → LeavesJust history disk
+rests_leaves good says history gate covers disk sound rests = bodies_leave history disk rests.entries (rest_leaves_just (bodies_of history) disk gate sound rests.journal)
+
+-- whatever is done to the user's files
+pub leaves_stays : (history : History) (old new : DiskState) → new.state ≡ old.state → LeavesJust history old → LeavesJust history new
+leaves_stays history old new same just = record { left = just.left; leaves = subst (λ (folder : Folder). FolderLeaves folder just.left) (sym same) just.leaves; records = just.records }

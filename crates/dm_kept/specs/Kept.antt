@@ -6,7 +6,7 @@ use Rattle.dm_types.specs.Name.{IsPart}
 use Rattle.dm_types.specs.declared.item.Item.{Item}
 use Rattle.dm_disk_model.specs.Disk.{DiskState, Image, MayLeave}
 use Rattle.dm_disk_model.specs.Beside.{IsFirmBut}
-use Rattle.dm_disk_model.specs.Folder.{Folder, contents_of, names_of}
+use Rattle.dm_disk_model.specs.Folder.{Contents, Folder, FolderLeaves, contents_of, names_of}
 use Rattle.dm_item.specs.Lawful.{History, items_of}
 use Rattle.dm_journal.specs.AtRest.{AtRest, journal_name}
 use Rattle.dm_kept.specs.Files.{Covers, EndsLive, Facts, IfGood, PartsStand, Says, Sound, no_covers}
@@ -27,6 +27,12 @@ pub record Recovers (good : Bool) (says : Says) (P : Found → Type 0) (folder :
 -- so whatever a crash now leaves
 abbrev pub Kept : Bool → Says → (Found → Type 0) → DiskState → Type 0
 Kept good says P disk = (image : Image) → MayLeave disk image → Recovers good says P disk.files image
+
+-- Some crash now leaves the journal with just this history. It is said of the folder of the state alone.
+pub record LeavesJust (history : History) (disk : DiskState) : Type 0 where
+  pub left : Contents
+  pub leaves : FolderLeaves disk.state left
+  pub records : Records (left journal_name) history
 
 -- The journal stands in every image, whole and durable, and records this history. Its closed gate stands at this place. Where the
 -- disk was good, the files of the history's items are kept, with what is live of them.

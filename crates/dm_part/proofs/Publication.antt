@@ -57,10 +57,6 @@ pub reads_removed : (place : Place) (result : Result (Unit {0}) DiskFault) (old 
 reads_removed place (Ok done) old new step = remove_reads place old new step
 reads_removed place (Err fault) old new step = tt
 
-pub reads_created : (place : Place) (result : Result (Unit {0}) DiskFault) (old new : DiskState) → CreateStep place result old new → OnOk result (bytes_at new place ≡ Some [])
-reads_created place (Ok done) old new step = create_reads place old new step
-reads_created place (Err fault) old new step = tt
-
 -- a part that was created, with the names synced
 pub reads_made : (place : Place) (result : Result (Unit {0}) DiskFault) (old mid new : DiskState) → CreateStep place (Ok tt) old mid → SyncNamesStep place.area result mid new → OnOk result (bytes_at new place ≡ Some [])
 reads_made place (Ok done) old mid new made synced = names_reads place.area (Ok tt) mid new synced place ∙ create_reads place old mid made

@@ -9,6 +9,6 @@ mod part;
 
 pub use hashing::{PartFault, digest};
 pub use keeping::{held_is_sound, others_leave, own_calls_keep, rows_of_keeping, sound_is_held};
-pub use making::{MakeFault, create, make_part, place_of};
+pub use making::{create, place_of};
 pub use naming::{one_part, read_part_name};
-pub use part::{clear, discard, make, publish, put, settle};
+pub use part::{discard, publish, put, settle};

@@ -2,20 +2,12 @@ ghost use Rattle.std.specs.Prelude.{◌≡◌, IfOk, OnOk, Some, []};
 ghost use Rattle.dm_types.specs.Faults.{HasCause};
 ghost use Rattle.dm_disk_model.specs.Faults.{disk_kind};
 ghost use Rattle.dm_disk_model.specs.Disk.{now, StandsNot, bytes_at, CreateStep, SyncNamesStep};
-ghost use Rattle.dm_part.specs.Making.{make_kind, part_place, Makes};
+ghost use Rattle.dm_part.specs.Making.{part_place};
 ghost use Rattle.dm_part.specs.Runs.{InTurn};
 
 use dm_disk_model::{Area, Disk, DiskFault, Place};
-use dm_types::{DiskKind, Epoch, ItemId, NoMemory, part_name};
+use dm_types::{Epoch, ItemId, NoMemory, part_name};
 use std::alloc::Global;
-
-/// Why a part wasn't made.
-#[derive(Clone, Copy, Debug, PartialEq, Eq)]
-pub enum MakeFault {
-    /// A call on the disk failed.
-    Disk(DiskKind),
-    NoMemory,
-}
 
 /// The place of an item's part in one of its epochs.
 pub fn place_of(alloc: Global, id: ItemId, epoch: Epoch) -> Result<Place, NoMemory>
@@ -39,29 +31,5 @@ pub fn create<D: Disk>(disk: &mut D, part: &Place) -> Result<(), DiskFault>
     match disk.create(part) {
         Ok(()) => disk.sync_names(part.area),
         Err(fault) => Err(fault),
-    }
-}
-
-/// Makes the part of an item in one of its epochs, and makes the names durable. The part is empty.
-pub fn make_part<D: Disk>(
-    alloc: Global,
-    disk: &mut D,
-    id: ItemId,
-    epoch: Epoch,
-) -> Result<Place, MakeFault>
-    requires { D.tells → StandsNot (now (D.history disk.old)) (part_place id.0 epoch.0) }
-    ensures is { IfOk result (λ place. place ≡ part_place id.0 epoch.0) }
-    ensures done { D.tells → Makes (part_place id.0 epoch.0) result (D.history disk.old) (D.history disk.new) }
-    ensures made { D.tells → IfOk result (λ place. bytes_at (now (D.history disk.new)) place ≡ Some []) }
-    ensures cause { HasCause make_kind (D.faults disk.old) (D.faults disk.new) result }
-    ensures far { D.far disk.new ≡ D.far disk.old }
-{
-    let place = match place_of(alloc, id, epoch) {
-        Ok(place) => place,
-        Err(NoMemory) => return Err(MakeFault::NoMemory),
-    };
-    match create(disk, &place) {
-        Ok(()) => Ok(place),
-        Err(fault) => Err(MakeFault::Disk(fault.0)),
     }
 }

@@ -1,5 +1,5 @@
 // The calls on a part.
-ghost use Rattle.std.specs.Prelude.{◌≡◌, ◌≢◌, ℕ, ◌+◌, ◌^◌, ◌<◌, length, List, [], Some, None, OnOk};
+ghost use Rattle.std.specs.Prelude.{◌≡◌, ◌≢◌, ℕ, ◌+◌, ◌^◌, ◌<◌, length, List, Some, None, OnOk};
 ghost use Rattle.dm_types.specs.Faults.{HasCause};
 ghost use Rattle.dm_disk_model.specs.Faults.{disk_kind, CountsFar};
 ghost use Rattle.dm_disk_model.specs.File.{overwrite};
@@ -10,33 +10,6 @@ ghost use Rattle.dm_part.specs.Publish.{Moves};
 ghost use Rattle.dm_part.specs.Runs.{InTurn};
 
 use dm_disk_model::{Disk, DiskFault, Place};
-
-/// Removes the part where it stands.
-pub fn clear<D: Disk>(disk: &mut D, part: &Place) -> Result<(), DiskFault>
-    ensures cleared { D.tells → OnOk result (bytes_at (now (D.history disk.new)) part.now ≡ None) }
-    ensures keeps { D.tells → KeepsOthers part.now (D.history disk.old) (D.history disk.new) }
-    ensures cause { HasCause disk_kind (D.faults disk.old) (D.faults disk.new) result }
-    ensures far { D.far disk.new ≡ D.far disk.old }
-{
-    match disk.length(part) {
-        Ok(None) => Ok(()),
-        Ok(Some(_)) => disk.remove(part),
-        Err(fault) => Err(fault),
-    }
-}
-
-/// Makes the part anew and empty: one that stands is removed first.
-pub fn make<D: Disk>(disk: &mut D, part: &Place) -> Result<(), DiskFault>
-    ensures made { D.tells → OnOk result (bytes_at (now (D.history disk.new)) part.now ≡ Some []) }
-    ensures keeps { D.tells → KeepsOthers part.now (D.history disk.old) (D.history disk.new) }
-    ensures cause { HasCause disk_kind (D.faults disk.old) (D.faults disk.new) result }
-    ensures far { D.far disk.new ≡ D.far disk.old }
-{
-    match clear(disk, part) {
-        Ok(()) => disk.create(part),
-        Err(fault) => Err(fault),
-    }
-}
 
 /// Writes a piece of content at its place.
 pub fn put<D: Disk>(disk: &mut D, part: &Place, at: u64, piece: &[u8]) -> Result<(), DiskFault>

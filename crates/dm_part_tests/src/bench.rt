@@ -1,7 +1,7 @@
 // How a part is put on a disk in memory, and what is read of it. Each helper asks first whether it stands.
 use dm_disk::{Disk, DiskFault, FailingCall, MemoryDisk, Pick, Place};
-use dm_part::{MakeFault, PartFault, digest, discard, make_part, place_of, put, settle};
-use dm_types::{DiskKind, Epoch, ItemId, Listed, NoMemory};
+use dm_part::{PartFault, create, digest, discard, put, settle};
+use dm_types::{DiskKind, Listed, NoMemory};
 use std::alloc::Global;
 use std::test::Fail;
 
@@ -17,21 +17,11 @@ pub(crate) fn disk(alloc: Global, failing: Option<u64>) -> Result<MemoryDisk, No
     MemoryDisk::new(alloc, calls, None)
 }
 
-/// Makes a part by three calls on the disk.
-pub(crate) fn make(
-    alloc: Global,
-    disk: &mut MemoryDisk,
-    id: ItemId,
-    epoch: Epoch,
-) -> Result<Place, MakeFault> {
-    let place = match place_of(alloc, id, epoch) {
-        Ok(place) => place,
-        Err(NoMemory) => return Err(MakeFault::NoMemory),
-    };
-    match disk.length(&place) {
-        Ok(None) => make_part(alloc, disk, id, epoch),
-        Ok(Some(_)) => Err(MakeFault::Disk(DiskKind::Failed)),
-        Err(fault) => Err(MakeFault::Disk(fault.0)),
+/// Makes a part, by three calls.
+pub(crate) fn make(disk: &mut MemoryDisk, part: &Place) -> Result<(), DiskFault> {
+    match disk.length(part)? {
+        None => create(disk, part),
+        Some(_) => Err(DiskFault(DiskKind::Failed)),
     }
 }
 

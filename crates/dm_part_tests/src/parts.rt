@@ -1,7 +1,7 @@
 // What parts are named, what their digests are, and what a crash leaves of them.
 use crate::bench::{disk, keep, left, make, sum, take_away, write};
-use dm_disk::{MemoryDisk, Pick, Place};
-use dm_part::{MakeFault, PartFault, read_part_name};
+use dm_disk::{DiskFault, MemoryDisk, Pick, Place};
+use dm_part::{PartFault, place_of, read_part_name};
 use dm_types::{DiskKind, Epoch, ItemId};
 use std::alloc::Global;
 use std::test::Fail;
@@ -24,8 +24,9 @@ fn with_part(
     bytes: &[u8],
 ) -> Result<(MemoryDisk, Place), Fail> {
     let mut there = disk(alloc, failing)?;
-    match make(alloc, &mut there, ItemId(1), Epoch(1)) {
-        Ok(part) => match write(&mut there, &part, bytes) {
+    let part = place_of(alloc, ItemId(1), Epoch(1))?;
+    match make(&mut there, &part) {
+        Ok(()) => match write(&mut there, &part, bytes) {
             Ok(()) => Ok((there, part)),
             Err(_) => Err("not written".into()),
         },
@@ -154,8 +155,8 @@ fn a_making_that_fails_is_answered(rt: HostRuntime) -> Result<(), Fail> {
     let alloc = rt.alloc();
     for call in [1, 2] {
         let mut there = disk(alloc, Some(call))?;
-        let made = make(alloc, &mut there, ItemId(1), Epoch(1));
-        assert!(rt; matches!(made, Err(MakeFault::Disk(DiskKind::Denied))));
+        let part = place_of(alloc, ItemId(1), Epoch(1))?;
+        assert_eq!(rt; make(&mut there, &part), Err(DiskFault(DiskKind::Denied)));
     }
     Ok(())
 }

@@ -1,6 +1,7 @@
 use Rattle.std.proofs.Common.{ℕ, length, ◌∙◌, ap, sym, subst, arith}
 use Rattle.dm_disk_model.specs.Disk.{now}
-use Rattle.dm_journal.specs.AtRest.{AtRest, ReadsJournal}
+use Rattle.dm_journal.specs.AtRest.{AtRest, MayLeaveJust, ReadsJournal}
+use Rattle.dm_journal.proofs.Losing.{where_failed}
 use Rattle.dm_journal.proofs.Texts.{length-tail}
 use Rattle.dm_journal.proofs.journal.Journal.append.Goals as goal
 
@@ -36,3 +37,10 @@ returns-clause-far g c near =
     let tail = ap length (c.deref.ensures.value ∙ c.fill_tail.ensures.tail) in
     let long = length-tail c.args.body.now in
     c.write_cell.ensures.far (omega (arith, near, tail, long, c.self.view_is))
+
+-- where it fails, some crash leaves just the bodies before it
+pub returns-in_err-write_cell-clause-lost : goal.returns-in_err-write_cell-clause-lost
+returns-in_err-write_cell-clause-lost g c tells bodies rest =
+    where_failed (MayLeaveJust bodies (now (g.D.Disk.history c.write_cell.new.disk)).state) c.from_residual.result
+    (c.in_err-write_cell.ensures.lost tells bodies c.args.body.now c.requires.size (c.deref.ensures.value ∙ c.fill_tail.ensures.tail)
+    (subst (λ (gate : ℕ). AtRest (now (g.D.Disk.history c.args.disk.now)) gate bodies) (sym c.self.view_is) rest))
