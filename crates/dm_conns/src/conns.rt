@@ -25,13 +25,14 @@ pub trait Conns {
     /// How often `accept` failed.
     ghost faults: { Self → Fault → ℕ };
 
-    /// Waits for the next connection.
+    /// Waits for the next connection. One that is accepted leaves the counts.
     fn accept(&mut self) -> Result<Self::X, EdgeFault>
         ensures fresh { IfOk result (λ conn. Self.X.tells → IsFresh (Self.X.told conn)) }
         ensures unfailed { IfOk result (λ conn. (kind : Fault) → Self.X.faults conn kind ≡ 0) }
         ensures over { over self.new ≡ over self.old }
         ensures served { served self.new ≡ served self.old }
-        ensures cause { HasCause edge_kind (faults self.old) (faults self.new) result };
+        ensures cause { HasCause edge_kind (faults self.old) (faults self.new) result }
+        ensures quiet { IfOk result (λ _. (kind : Fault) → faults self.new kind ≡ faults self.old kind) };
 
     /// Takes a connection back. It takes no memory and cannot fail.
     fn done(&mut self, conn: Self::X)

@@ -92,6 +92,7 @@ impl Conns for ConnsMem {
         ensures over { self.new.over ≡ self.old.over }
         ensures served { self.new.served ≡ self.old.served }
         ensures cause { HasCause edge_kind (edge_count self.old.counting.failed) (edge_count self.new.counting.failed) result }
+        ensures quiet { IfOk result (λ _. (kind : Fault) → edge_count self.new.counting.failed kind ≡ edge_count self.old.counting.failed kind) }
 
         // In memory the answer is determined.
         ensures fails { IsErr result ↔ AcceptFails self.old }
