@@ -22,12 +22,13 @@ abbrev pub BeginsServe : List (List ℕ) → Type 0
 BeginsServe [] = ⊥
 BeginsServe (first ∷ rest) = first ≡ codes "serve"
 
--- the words ask for no service, and nothing was done
-pub record WasRefused (words : List (List ℕ)) (before after : World) (past past' : Past) (line line' : Line) (said : Said) : Type 0 where
+-- the words ask for no service, and nothing was done; so no accept failed
+pub record WasRefused (accepts : Type 0) (words : List (List ℕ)) (before after : World) (past past' : Past) (line line' : Line) (said : Said) : Type 0 where
   pub none : (port : ℕ) → AsksServe words port → ⊥
   pub said_is : said ≡ only BadWords
   pub same : after ≡ before
   pub line_is : line' ≡ line
+  pub none_failed : accepts
   pub past_is : past' ≡ past
 
 -- the words ask for the service, and this is what a session made of the disk, the history and the connections
@@ -38,7 +39,7 @@ pub record WasServed {D O : Type 0} (outside : Outside) (clock : D → Clock) (c
 
 abbrev pub ServesWords : {D O : Type 0} → Outside → (D → Clock) → (D → DiskKind → ℕ) → (O → Says) → O → List (List ℕ) → ℕ → World → World → Past → Past → ℕ → ℕ → Line → Line → ℕ → Said → Type 0
 ServesWords outside clock counts says origin words at before after past past' far far' line line' requests said =
-    WasRefused words before after past past' line line' said ⊎ WasServed outside clock counts says origin words at before after past past' far far' line line' requests said
+    WasRefused outside.accepts words before after past past' line line' said ⊎ WasServed outside clock counts says origin words at before after past past' far far' line line' requests said
 
 -- One moment and one thing that is said explain all that is seen of a run.
 pub record ServeExplains {D O : Type 0} (outside : Outside) (tells : Telling) (clock : D → Clock) (counts : D → DiskKind → ℕ) (says : O → Says) (origin : O) (words : List (List ℕ)) (moment : ℕ) (before after : World) (past past' : Past) (far far' : ℕ) (line line' : Line) (requests : ℕ) (seen seen' : Outputs) (status : ℕ) : Type 0 where

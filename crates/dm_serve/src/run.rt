@@ -2,6 +2,7 @@ ghost use Rattle.std.specs.Prelude.{◌≡◌, IsTrue, ◌↔◌};
 ghost use Rattle.dm_types.specs.Faults.{NoneFell, Rose};
 ghost use Rattle.dm_edge.specs.declared.fault.EdgeFault.TheVariants.{Failed};
 ghost use Rattle.dm_store.specs.Origin.{said_of};
+ghost use Rattle.dm_does.specs.Printing.{SameCounts};
 ghost use Rattle.dm_past.specs.Past.{past_of};
 ghost use Rattle.dm_list.specs.Writing.{outputs_of};
 ghost use Rattle.dm_session.specs.Explaining.{world_of};
@@ -41,7 +42,7 @@ fn serve_at<D: Disk, O: Origin, K: Keeper, C: Clock, X: Conns>(
     at: u64,
     requests: u32,
 ) -> Session<D>
-    ensures serves { ServesWords (record { disk = D.tells; conns = X.tells; past = K.tells; moment = IsTold C.tells C.next; accept_failed = Rose (X.faults conns.old Failed) (X.faults conns.new Failed) }) D.history D.faults (λ o. said_of (O.says o)) origin words.now at
+    ensures serves { ServesWords (record { disk = D.tells; conns = X.tells; past = K.tells; moment = IsTold C.tells C.next; accepts = SameCounts (X.faults conns.old) (X.faults conns.new); accept_failed = Rose (X.faults conns.old Failed) (X.faults conns.new Failed) }) D.history D.faults (λ o. said_of (O.says o)) origin words.now at
         (world_of D.history D.faults disk) (world_of D.history D.faults result.disk) (past_of K.rows K.faults keeper.old) (past_of K.rows K.faults keeper.new) (D.far disk) (D.far result.disk)
         (record { over = X.over conns.old; count = X.served conns.old }) (record { over = X.over conns.new; count = X.served conns.new }) requests result.ending }
     ensures later { NoneFell (X.faults conns.old) (X.faults conns.new) }
@@ -71,7 +72,7 @@ pub fn run_serve<D: Disk, O: Origin, K: Keeper, C: Clock, S: Sink, X: Conns>(
     errs: &mut S,
     requests: u32,
 ) -> Ran<D>
-    ensures explains { ServeExplains (record { disk = D.tells; conns = X.tells; past = K.tells; moment = IsTold C.tells C.next; accept_failed = Rose (X.faults conns.old Failed) (X.faults conns.new Failed) }) (record { disk = D.tells; clock = C.tells; outputs = S.tells }) D.history D.faults (λ o. said_of (O.says o)) origin words.now (C.next clock.old)
+    ensures explains { ServeExplains (record { disk = D.tells; conns = X.tells; past = K.tells; moment = IsTold C.tells C.next; accepts = SameCounts (X.faults conns.old) (X.faults conns.new); accept_failed = Rose (X.faults conns.old Failed) (X.faults conns.new Failed) }) (record { disk = D.tells; clock = C.tells; outputs = S.tells }) D.history D.faults (λ o. said_of (O.says o)) origin words.now (C.next clock.old)
         (world_of D.history D.faults disk) (world_of D.history D.faults result.disk) (past_of K.rows K.faults keeper.old) (past_of K.rows K.faults keeper.new) (D.far disk) (D.far result.disk)
         (record { over = X.over conns.old; count = X.served conns.old }) (record { over = X.over conns.new; count = X.served conns.new }) requests
         (outputs_of S.written S.faults out.old errs.old) (outputs_of S.written S.faults out.new errs.new) result.status }

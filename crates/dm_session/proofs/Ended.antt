@@ -46,12 +46,12 @@ opening_shows before after (opens.NoMemory disk) result is cause = tt
 no_damage : (start end : Clock) (said : Said) (verdict : Verdict) → said ≡ only verdict → ShowsDamage start end verdict → ShowsDamage start end said.verdict
 no_damage start end said verdict is shows = subst (λ (s : Said). ShowsDamage start end s.verdict) (sym is) shows
 
-module _ {D O : Type 0} (tells conns_tell knows : Type 0) (moment : ℕ → Type 0) (accept_failed : Type 0) (clock : D → Clock) (counts : D → DiskKind → ℕ) (far : D → ℕ) (says : O → Says) (origin : O) (at : ℕ) (start : D) (said : Said) (past : Past) (line : Line) (requests : ℕ) where
+module _ {D O : Type 0} (tells conns_tell knows : Type 0) (moment : ℕ → Type 0) (accepts accept_failed : Type 0) (clock : D → Clock) (counts : D → DiskKind → ℕ) (far : D → ℕ) (says : O → Says) (origin : O) (at : ℕ) (start : D) (said : Said) (past : Past) (line : Line) (requests : ℕ) (quiet : accepts) where
   abbrev before : World
   before = world_of clock counts start
 
   abbrev RanTo : D → Type 0
-  RanTo end = ServeRuns (record { disk = tells; conns = conns_tell; past = knows; moment = moment; accept_failed = accept_failed }) clock counts says origin at before (world_of clock counts end) past past (far start) (far end) line line requests said
+  RanTo end = ServeRuns (record { disk = tells; conns = conns_tell; past = knows; moment = moment; accepts = accepts; accept_failed = accept_failed }) clock counts says origin at before (world_of clock counts end) past past (far start) (far end) line line requests said
 
   module _ (end : D) (fell : NoneFell (counts start) (counts end)) (beside : tells → Besides (IsSettledName clock start) (clock start) (clock end)) where
     abbrev after : World
@@ -67,7 +67,7 @@ module _ {D O : Type 0} (tells conns_tell knows : Type 0) (moment : ℕ → Type
     unread : NoneRead tells clock far (says origin) start end → SaysUnread before after said → (tells → ShowsDamage (clock start) (clock end) said.verdict) → RanTo end
     unread none told_so damage = record {
       run = Unread;
-      serves = record { says = told_so; none = refl; same = refl };
+      serves = record { says = told_so; none = refl; none_failed = quiet; same = refl };
       later = later;
       leaves = λ told. record {
         moments = none_read_leaves tells clock far (says origin) start end none told;
@@ -89,7 +89,7 @@ module _ {D O : Type 0} (tells conns_tell knows : Type 0) (moment : ℕ → Type
     hindered : IsHindered tells clock far (says origin) start end most_items at → SaysFault before after said → ShowsDamage (clock start) (clock end) said.verdict → RanTo end
     hindered h told_so damage = record {
       run = Unopened h.found h.recorded h.failed h.rest;
-      serves = record { says = told_so; none = refl; same = refl; taken = h.is.taken; lawful = h.is.lawful; one = h.is.one; left = h.is.left; tried = h.is.tried };
+      serves = record { says = told_so; none = refl; none_failed = quiet; same = refl; taken = h.is.taken; lawful = h.is.lawful; one = h.is.one; left = h.is.left; tried = h.is.tried };
       later = later;
       leaves = λ told. record {
         moments = (h.is.runs told).leaves;

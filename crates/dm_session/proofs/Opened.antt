@@ -191,9 +191,9 @@ module _ {D O : Type 0} (tells : Type 0) (clock : D → Clock) (counts : D → D
     near = near told;
   }
 
-  pub opened_runs : (conns_tell knows : Type 0) (moment : ℕ → Type 0) (accept_failed : Type 0) (past past' : Past) (line line' : Line) (requests : ℕ) (closed : Closed) → ClosesSo conns_tell (AnswersAt moment tells knows clock counts says) (both opened past) (both left past') line.over line'.over line.count line'.count accept_failed requests closed → ShutsSo left ended
-      → ServeRuns (record { disk = tells; conns = conns_tell; past = knows; moment = moment; accept_failed = accept_failed }) clock counts says origin at before after past past' (far start) (far ended.disk) line line' requests (said_at_end closed ended.broken)
-  opened_runs conns_tell knows moment accept_failed past past' line line' requests closed closes shuts = record {
+  pub opened_runs : (conns_tell knows : Type 0) (moment : ℕ → Type 0) (accepts accept_failed : Type 0) (past past' : Past) (line line' : Line) (requests : ℕ) (closed : Closed) → ClosesSo conns_tell (AnswersAt moment tells knows clock counts says) (both opened past) (both left past') line.over line'.over line.count line'.count accepts accept_failed requests closed → ShutsSo left ended
+      → ServeRuns (record { disk = tells; conns = conns_tell; past = knows; moment = moment; accepts = accepts; accept_failed = accept_failed }) clock counts says origin at before after past past' (far start) (far ended.disk) line line' requests (said_at_end closed ended.broken)
+  opened_runs conns_tell knows moment accepts accept_failed past past' line line' requests closed closes shuts = record {
     run = Opened here;
     serves = record {
       taken = subst (λ (n : ℕ). IsTaken n found) limits is.taken;
@@ -226,13 +226,13 @@ module _ {D O : Type 0} (tells : Type 0) (clock : D → Clock) (counts : D → D
   }
 
   -- with the disk that is handed back, and how it is told
-  pub ends_so : (conns_tell knows : Type 0) (moment : ℕ → Type 0) (accept_failed : Type 0) (past past' : Past) (line line' : Line) (requests : ℕ) (closed : Closed) → ClosesSo conns_tell (AnswersAt moment tells knows clock counts says) (both opened past) (both left past') line.over line'.over line.count line'.count accept_failed requests closed → ShutsSo left ended
+  pub ends_so : (conns_tell knows : Type 0) (moment : ℕ → Type 0) (accepts accept_failed : Type 0) (past past' : Past) (line line' : Line) (requests : ℕ) (closed : Closed) → ClosesSo conns_tell (AnswersAt moment tells knows clock counts says) (both opened past) (both left past') line.over line'.over line.count line'.count accepts accept_failed requests closed → ShutsSo left ended
       → (end : D) → end ≡ ended.disk → (said : Said) → said ≡ said_at_end closed ended.broken
-      → ServeRuns (record { disk = tells; conns = conns_tell; past = knows; moment = moment; accept_failed = accept_failed }) clock counts says origin at before (world_of clock counts end) past past' (far start) (far end) line line' requests said
-  ends_so conns_tell knows moment accept_failed past past' line line' requests closed closes shuts end end_is said said_is =
-      subst (λ (d : D). ServeRuns (record { disk = tells; conns = conns_tell; past = knows; moment = moment; accept_failed = accept_failed }) clock counts says origin at before (world_of clock counts d) past past' (far start) (far d) line line' requests said) (sym end_is)
-      (subst (λ (c : Said). ServeRuns (record { disk = tells; conns = conns_tell; past = knows; moment = moment; accept_failed = accept_failed }) clock counts says origin at before after past past' (far start) (far ended.disk) line line' requests c) (sym said_is)
-      (opened_runs conns_tell knows moment accept_failed past past' line line' requests closed closes shuts))
+      → ServeRuns (record { disk = tells; conns = conns_tell; past = knows; moment = moment; accepts = accepts; accept_failed = accept_failed }) clock counts says origin at before (world_of clock counts end) past past' (far start) (far end) line line' requests said
+  ends_so conns_tell knows moment accepts accept_failed past past' line line' requests closed closes shuts end end_is said said_is =
+      subst (λ (d : D). ServeRuns (record { disk = tells; conns = conns_tell; past = knows; moment = moment; accepts = accepts; accept_failed = accept_failed }) clock counts says origin at before (world_of clock counts d) past past' (far start) (far d) line line' requests said) (sym end_is)
+      (subst (λ (c : Said). ServeRuns (record { disk = tells; conns = conns_tell; past = knows; moment = moment; accepts = accepts; accept_failed = accept_failed }) clock counts says origin at before after past past' (far start) (far ended.disk) line line' requests c) (sym said_is)
+      (opened_runs conns_tell knows moment accepts accept_failed past past' line line' requests closed closes shuts))
 
 -- whether the list is broken behind the interruptions
 pub shut_ok : {D O : Type 0} (old new : View D O) (done : Unit {0}) → ShutAnswers old new (Ok done) → new.broken ≡ false

@@ -14,7 +14,7 @@ use Rattle.dm_session.specs.Serving.{Line, ServesSo}
 
 module _ {D O : Type 0} (outside : Outside) (clock : D → Clock) (counts : D → DiskKind → ℕ) (says : O → Says) (origin : O) (at : ℕ) (before after : World) (past past' : Past) (far far' : ℕ) (line line' : Line) (requests : ℕ) (said : Said) (told : outside.disk) where
   -- it opened the list once, and recorded what it tried behind what it found
-  session_opens : (run : Run) → ServesSo outside.disk outside.conns outside.past outside.moment outside.accept_failed clock counts says origin at before after past past' line line' requests said run → OpensOnce (now before.disk) run
+  session_opens : (run : Run) → ServesSo outside.disk outside.conns outside.past outside.moment outside.accepts outside.accept_failed clock counts says origin at before after past past' line line' requests said run → OpensOnce (now before.disk) run
   session_opens Untouched serves = absurd serves
   session_opens Unread serves = tt
   session_opens (Unopened found recorded failed rest) serves = behind_opening outside.disk before.disk after.disk at found (recorded ++ (failed ++ rest)) serves.left told serves.lawful serves.tried

@@ -98,14 +98,15 @@ module _ (tells fewer : Type 0) (tell : fewer → tells) (before after : Told) (
   }
 
 module _ {V : Type 0} (tells : Type 0) (answers : V → ApiRequest → ℕ → Result ApiReply NoMemory → V → Type 0) where
-  by_stops : (service then : V) (overs overs' : List Over) (count count' : ℕ) (failed : Type 0) (stops : Bool) → IsServed tells answers service then overs overs' count count' stops → TurnedSo tells answers service then overs overs' count count' failed (turned_by stops)
-  by_stops service then overs overs' count count' failed true is = is
-  by_stops service then overs overs' count count' failed false is = is
+  by_stops : (service then : V) (overs overs' : List Over) (count count' : ℕ) (accepts failed : Type 0) (stops : Bool) → IsServed tells answers service then overs overs' count count' stops → accepts
+      → TurnedSo tells answers service then overs overs' count count' accepts failed (turned_by stops)
+  by_stops service then overs overs' count count' accepts failed true is accepted = (is, accepted)
+  by_stops service then overs overs' count count' accepts failed false is accepted = (is, accepted)
 
-  pub turned_so : (service then : V) (overs overs' : List Over) (count count' : ℕ) (failed : Type 0) (stops tested : Bool) (turned : Turned) → tested ≡ stops → turned ≡ turned_by tested → IsServed tells answers service then overs overs' count count' stops
-      → TurnedSo tells answers service then overs overs' count count' failed turned
-  turned_so service then overs overs' count count' failed stops tested turned same is served =
-      subst (TurnedSo tells answers service then overs overs' count count' failed) (sym (is ∙ ap turned_by same)) (by_stops service then overs overs' count count' failed stops served)
+  pub turned_so : (service then : V) (overs overs' : List Over) (count count' : ℕ) (accepts failed : Type 0) (stops tested : Bool) (turned : Turned) → tested ≡ stops → turned ≡ turned_by tested → IsServed tells answers service then overs overs' count count' stops → accepts
+      → TurnedSo tells answers service then overs overs' count count' accepts failed turned
+  turned_so service then overs overs' count count' accepts failed stops tested turned same is served accepted =
+      subst (TurnedSo tells answers service then overs overs' count count' accepts failed) (sym (is ∙ ap turned_by same)) (by_stops service then overs overs' count count' accepts failed stops served accepted)
 
 -- there is one kind of fault
 pub as_failed : (before after : EdgeFault → ℕ) (fault : EdgeFault) → Rose (before fault) (after fault) → Rose (before Failed) (after Failed)
@@ -157,18 +158,18 @@ module _ {V : Type 0} (tells : Type 0) (answers : V → ApiRequest → ℕ → R
     number = let longer : length (far.turns ++ one.turn ∷ []) ≡ length far.turns + 1 = length-append far.turns (one.turn ∷ []) in let number = far.number in omega (arith, longer, number, some);
   }
 
-  pub closes_stopped : (failed : Type 0) → IsServed tells answers present then overs' overs'' count' count'' true → ClosesSo tells answers start then overs overs'' count count'' failed requests closes.Stopped
-  closes_stopped failed one = record {
+  pub closes_stopped : (accepts failed : Type 0) → IsServed tells answers present then overs' overs'' count' count'' true → accepts → ClosesSo tells answers start then overs overs'' count count'' accepts failed requests closes.Stopped
+  closes_stopped accepts failed one accepted = record {
     turns = far.turns ++ one.turn ∷ [];
     served = one_more true one;
-    ends = record { front = far.turns; last = one.turn; are = refl; before = far.goes_on; stops = one.stops_is };
+    ends = (record { front = far.turns; last = one.turn; are = refl; before = far.goes_on; stops = one.stops_is }, accepted);
   }
 
   fewer_than : 0 < left → length far.turns < requests
   fewer_than some = let number = far.number in omega (arith, number, some)
 
-  pub closes_failed : (failed here : Type 0) → (here → failed) → 0 < left → IsNotServed present then overs' overs'' count' count'' here → ClosesSo tells answers start then overs overs'' count count'' failed requests closes.AcceptFailed
-  closes_failed failed here wider some none_came = record {
+  pub closes_failed : (accepts failed here : Type 0) → (here → failed) → 0 < left → IsNotServed present then overs' overs'' count' count'' here → ClosesSo tells answers start then overs overs'' count count'' accepts failed requests closes.AcceptFailed
+  closes_failed accepts failed here wider some none_came = record {
     turns = far.turns;
     served = record {
       all = subst (λ (v : V). AllTurn tells answers start far.turns v) (sym none_came.same) far.served.all;
@@ -181,10 +182,10 @@ module _ {V : Type 0} (tells : Type 0) (answers : V → ApiRequest → ℕ → R
 all_of_them : (done left requests : ℕ) → done + left ≡ requests → (0 < left → ⊥) → done ≡ requests
 all_of_them done left requests number over = omega (arith, number, over)
 
-pub closes_full : {V : Type 0} (tells : Type 0) (answers : V → ApiRequest → ℕ → Result ApiReply NoMemory → V → Type 0) (start present : V) (overs overs' : List Over) (count count' : ℕ) (failed : Type 0) (requests left : ℕ)
-    → SoFar tells answers start present overs overs' count count' requests left → (0 < left → ⊥) → ClosesSo tells answers start present overs overs' count count' failed requests closes.Full
-closes_full tells answers start present overs overs' count count' failed requests left far over = record {
+pub closes_full : {V : Type 0} (tells : Type 0) (answers : V → ApiRequest → ℕ → Result ApiReply NoMemory → V → Type 0) (start present : V) (overs overs' : List Over) (count count' : ℕ) (accepts failed : Type 0) (requests left : ℕ)
+    → SoFar tells answers start present overs overs' count count' requests left → accepts → (0 < left → ⊥) → ClosesSo tells answers start present overs overs' count count' accepts failed requests closes.Full
+closes_full tells answers start present overs overs' count count' accepts failed requests left far accepted over = record {
   turns = far.turns;
   served = far.served;
-  ends = (all_of_them (length far.turns) left requests far.number over, far.goes_on);
+  ends = (all_of_them (length far.turns) left requests far.number over, far.goes_on, accepted);
 }

@@ -17,18 +17,19 @@ use Rattle.dm_session.specs.Serving.{Line, ServesSo}
 abbrev pub world_of : {D : Type 0} → (D → Clock) → (D → DiskKind → ℕ) → D → World
 world_of clock counts disk = record { disk = clock disk; disk_faults = counts disk; net_faults = λ kind. 0; closed = [] }
 
--- which of the outside's objects tell what they hold, which moments the clock told, and that an accept failed
+-- which of the outside's objects tell what they hold, which moments the clock told, that no accept failed, and that one did
 pub record Outside : Type 1 where
   pub disk : Type 0
   pub conns : Type 0
   pub past : Type 0
   pub moment : ℕ → Type 0
+  pub accepts : Type 0
   pub accept_failed : Type 0
 
 -- A session over a disk: how far it came explains how it ended, what each moment leaves, and what the next run begins with.
 pub record ServeRuns {D O : Type 0} (outside : Outside) (clock : D → Clock) (counts : D → DiskKind → ℕ) (says : O → Says) (origin : O) (at : ℕ) (before after : World) (past past' : Past) (far far' : ℕ) (line line' : Line) (requests : ℕ) (said : Said) : Type 0 where
   pub run : Run
-  pub serves : ServesSo outside.disk outside.conns outside.past outside.moment outside.accept_failed clock counts says origin at before after past past' line line' requests said run
+  pub serves : ServesSo outside.disk outside.conns outside.past outside.moment outside.accepts outside.accept_failed clock counts says origin at before after past past' line line' requests said run
   pub later : IsLater outside.disk before after
   pub leaves : outside.disk → Leaves before.disk after.disk far far' said.verdict run
   pub keeps : outside.disk → (kept rest : History) → Kept true (says origin) (Through kept rest) (now before.disk) → KeepsAll (says origin) before.disk after.disk kept rest run

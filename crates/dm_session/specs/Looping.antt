@@ -32,15 +32,16 @@ pub record IsNotServed {V : Type 0} (service then : V) (over over' : List Over) 
   pub count_is : count' ≡ count
   pub failed : accept_failed
 
-abbrev pub TurnedSo : {V : Type 0} → Type 0 → (V → ApiRequest → ℕ → Result ApiReply NoMemory → V → Type 0) → V → V → List Over → List Over → ℕ → ℕ → Type 0 → Turned → Type 0
-TurnedSo tells answers service then over over' count count' accept_failed turneds.GoesOn = IsServed tells answers service then over over' count count' false
-TurnedSo tells answers service then over over' count count' accept_failed turneds.Stops = IsServed tells answers service then over over' count count' true
-TurnedSo tells answers service then over over' count count' accept_failed turneds.NotAccepted = IsNotServed service then over over' count count' accept_failed
+-- where one was served no accept failed
+abbrev pub TurnedSo : {V : Type 0} → Type 0 → (V → ApiRequest → ℕ → Result ApiReply NoMemory → V → Type 0) → V → V → List Over → List Over → ℕ → ℕ → Type 0 → Type 0 → Turned → Type 0
+TurnedSo tells answers service then over over' count count' accepts accept_failed turneds.GoesOn = IsServed tells answers service then over over' count count' false × accepts
+TurnedSo tells answers service then over over' count count' accepts accept_failed turneds.Stops = IsServed tells answers service then over over' count count' true × accepts
+TurnedSo tells answers service then over over' count count' accepts accept_failed turneds.NotAccepted = IsNotServed service then over over' count count' accept_failed
 
-pub record ClosesSo {V : Type 0} (tells : Type 0) (answers : V → ApiRequest → ℕ → Result ApiReply NoMemory → V → Type 0) (service then : V) (over over' : List Over) (count count' : ℕ) (accept_failed : Type 0) (requests : ℕ) (closed : Closed) : Type 0 where
+pub record ClosesSo {V : Type 0} (tells : Type 0) (answers : V → ApiRequest → ℕ → Result ApiReply NoMemory → V → Type 0) (service then : V) (over over' : List Over) (count count' : ℕ) (accepts accept_failed : Type 0) (requests : ℕ) (closed : Closed) : Type 0 where
   pub turns : List Turn
   pub served : AreServed tells answers service then over over' count count' turns
-  pub ends : EndsBy requests accept_failed turns closed
+  pub ends : EndsBy requests accepts accept_failed turns closed
 
 -- all that ran was interrupted, or that was hindered
 pub record ShutsSo {D O : Type 0} (old new : View D O) : Type 0 where

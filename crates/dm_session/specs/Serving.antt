@@ -59,7 +59,7 @@ AnswersAt moment tells told clock counts says old request at result new = moment
 
 -- The list was opened. The connections were served from it and from the history one after another, each by what it asks of both as the ones before it left
 -- them; and then all that ran was interrupted.
-pub record ServesList {D O : Type 0} (tells conns_tell told : Type 0) (moment : ℕ → Type 0) (accept_failed : Type 0) (clock : D → Clock) (counts : D → DiskKind → ℕ) (says : O → Says) (origin : O) (at : ℕ) (before after : World) (past past' : Past) (line line' : Line) (requests : ℕ) (log : Log) (said : Said) : Type 0 where
+pub record ServesList {D O : Type 0} (tells conns_tell told : Type 0) (moment : ℕ → Type 0) (accepts accept_failed : Type 0) (clock : D → Clock) (counts : D → DiskKind → ℕ) (says : O → Says) (origin : O) (at : ℕ) (before after : World) (past past' : Past) (line line' : Line) (requests : ℕ) (log : Log) (said : Said) : Type 0 where
   -- all that was tried is lawful behind what was found, the opening did what openings do, and no later entry opens the list again
   pub taken : IsTaken most_items log.found
   pub lawful : IsLawful (log.found ++ tried_of log)
@@ -81,23 +81,25 @@ pub record ServesList {D O : Type 0} (tells conns_tell told : Type 0) (moment : 
   pub turns : List Turn
   pub served : AreServed conns_tell (AnswersAt moment tells told clock counts says) (both opened past) (both left past') line.over line'.over line.count line'.count turns
   pub closed : Closed
-  pub ends : EndsBy requests accept_failed turns closed
+  pub ends : EndsBy requests accepts accept_failed turns closed
   pub shut : Result (Unit {0}) DeskFault
   pub shuts : ShutAnswers left ended shut
   pub shut_keeps : Keeps tells clock says left ended
   pub end_is : after.disk ≡ clock ended.disk
   pub said_is : said ≡ said_at_end closed ended.broken
 
--- no journal was read, and the history wasn't asked
-pub record ServesUnread (before after : World) (past past' : Past) (line line' : Line) (said : Said) : Type 0 where
+-- No journal was read. Nothing was accepted, also no accept failed, and the history wasn't asked.
+pub record ServesUnread (accepts : Type 0) (before after : World) (past past' : Past) (line line' : Line) (said : Said) : Type 0 where
   pub says : SaysUnread before after said
   pub none : line' ≡ line
+  pub none_failed : accepts
   pub same : past' ≡ past
 
--- The opening was refused behind what it read, and the history wasn't asked. What it tried is lawful there: these entries were recorded, then one failed at most, and the rest wasn't tried.
-pub record ServesUnopened (tells : Type 0) (at : ℕ) (before after : World) (past past' : Past) (line line' : Line) (found recorded failed rest : History) (said : Said) : Type 0 where
+-- The opening was refused behind what it read; nothing was accepted, and the history wasn't asked. What it tried is lawful there: these entries were recorded, then one failed at most, and the rest wasn't tried.
+pub record ServesUnopened (tells accepts : Type 0) (at : ℕ) (before after : World) (past past' : Past) (line line' : Line) (found recorded failed rest : History) (said : Said) : Type 0 where
   pub says : SaysFault before after said
   pub none : line' ≡ line
+  pub none_failed : accepts
   pub same : past' ≡ past
   pub taken : IsTaken most_items found
   pub lawful : IsLawful (found ++ (recorded ++ (failed ++ rest)))
@@ -106,8 +108,8 @@ pub record ServesUnopened (tells : Type 0) (at : ℕ) (before after : World) (pa
   pub tried : IsTried tells before.disk after.disk at found (recorded ++ (failed ++ rest)) left
 
 -- by how far it came
-abbrev pub ServesSo : {D O : Type 0} → Type 0 → Type 0 → Type 0 → (ℕ → Type 0) → Type 0 → (D → Clock) → (D → DiskKind → ℕ) → (O → Says) → O → ℕ → World → World → Past → Past → Line → Line → ℕ → Said → Run → Type 0
-ServesSo tells conns_tell told moment accept_failed clock counts says origin at before after past past' line line' requests said Untouched = ⊥
-ServesSo tells conns_tell told moment accept_failed clock counts says origin at before after past past' line line' requests said Unread = ServesUnread before after past past' line line' said
-ServesSo tells conns_tell told moment accept_failed clock counts says origin at before after past past' line line' requests said (Unopened found recorded failed rest) = ServesUnopened tells at before after past past' line line' found recorded failed rest said
-ServesSo tells conns_tell told moment accept_failed clock counts says origin at before after past past' line line' requests said (Opened log) = ServesList tells conns_tell told moment accept_failed clock counts says origin at before after past past' line line' requests log said
+abbrev pub ServesSo : {D O : Type 0} → Type 0 → Type 0 → Type 0 → (ℕ → Type 0) → Type 0 → Type 0 → (D → Clock) → (D → DiskKind → ℕ) → (O → Says) → O → ℕ → World → World → Past → Past → Line → Line → ℕ → Said → Run → Type 0
+ServesSo tells conns_tell told moment accepts accept_failed clock counts says origin at before after past past' line line' requests said Untouched = ⊥
+ServesSo tells conns_tell told moment accepts accept_failed clock counts says origin at before after past past' line line' requests said Unread = ServesUnread accepts before after past past' line line' said
+ServesSo tells conns_tell told moment accepts accept_failed clock counts says origin at before after past past' line line' requests said (Unopened found recorded failed rest) = ServesUnopened tells accepts at before after past past' line line' found recorded failed rest said
+ServesSo tells conns_tell told moment accepts accept_failed clock counts says origin at before after past past' line line' requests said (Opened log) = ServesList tells conns_tell told moment accepts accept_failed clock counts says origin at before after past past' line line' requests log said

@@ -57,10 +57,11 @@ pub record StopsLast (turns : List Turn) : Type 0 where
   pub stops : stops_behind last.end ≡ true
 
 -- how it came to its end: so many connections were served, or the last reply ends it, or the next one could not be accepted
-abbrev pub EndsBy : ℕ → Type 0 → List Turn → Closed → Type 0
-EndsBy requests accept_failed turns closes.Full = (length turns ≡ requests) × GoOn turns
-EndsBy requests accept_failed turns closes.Stopped = StopsLast turns
-EndsBy requests accept_failed turns closes.AcceptFailed = accept_failed × (length turns < requests) × GoOn turns
+-- Before the first two no accept failed: no count of the connections changed.
+abbrev pub EndsBy : ℕ → Type 0 → Type 0 → List Turn → Closed → Type 0
+EndsBy requests accepts accept_failed turns closes.Full = (length turns ≡ requests) × GoOn turns × accepts
+EndsBy requests accepts accept_failed turns closes.Stopped = StopsLast turns × accepts
+EndsBy requests accepts accept_failed turns closes.AcceptFailed = accept_failed × (length turns < requests) × GoOn turns
 
 -- how many connections were handed back, behind these too. The count stays at 2^64 - 1.
 abbrev pub handed_back : List Turn → ℕ → ℕ

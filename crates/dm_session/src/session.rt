@@ -4,6 +4,7 @@ ghost use Rattle.dm_types.specs.Faults.{NoneFell, Rose};
 ghost use Rattle.dm_edge.specs.declared.fault.EdgeFault.TheVariants.{Failed};
 ghost use Rattle.dm_store.specs.Keeps.{IsDesk};
 ghost use Rattle.dm_store.specs.Origin.{said_of};
+ghost use Rattle.dm_does.specs.Printing.{SameCounts};
 ghost use Rattle.dm_past.specs.Past.{past_of};
 ghost use Rattle.dm_works.specs.Moving.{Steps};
 ghost use Rattle.dm_session.specs.Explaining.{ServeRuns, world_of};
@@ -55,7 +56,7 @@ pub fn run_session<D: Disk, O: Origin, K: Keeper, C: Clock, X: Conns>(
     at: u64,
     requests: u32,
 ) -> Session<D>
-    ensures runs { ServeRuns (record { disk = D.tells; conns = X.tells; past = K.tells; moment = IsTold C.tells C.next; accept_failed = Rose (X.faults conns.old Failed) (X.faults conns.new Failed) }) D.history D.faults (λ o. said_of (O.says o)) origin at
+    ensures runs { ServeRuns (record { disk = D.tells; conns = X.tells; past = K.tells; moment = IsTold C.tells C.next; accepts = SameCounts (X.faults conns.old) (X.faults conns.new); accept_failed = Rose (X.faults conns.old Failed) (X.faults conns.new Failed) }) D.history D.faults (λ o. said_of (O.says o)) origin at
         (world_of D.history D.faults disk) (world_of D.history D.faults result.disk) (past_of K.rows K.faults keeper.old) (past_of K.rows K.faults keeper.new) (D.far disk) (D.far result.disk)
         (record { over = X.over conns.old; count = X.served conns.old }) (record { over = X.over conns.new; count = X.served conns.new }) requests result.ending }
     ensures later { NoneFell (X.faults conns.old) (X.faults conns.new) }

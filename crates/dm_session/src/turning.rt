@@ -4,6 +4,7 @@ ghost use Rattle.dm_types.specs.Faults.{NoneFell, Rose};
 ghost use Rattle.dm_edge.specs.declared.fault.EdgeFault.TheVariants.{Failed};
 ghost use Rattle.dm_store.specs.Keeps.{IsDesk};
 ghost use Rattle.dm_store.specs.Origin.{said_of};
+ghost use Rattle.dm_does.specs.Printing.{SameCounts};
 ghost use Rattle.dm_works.specs.Moving.{Steps};
 ghost use Rattle.dm_works.specs.Serving.{service_of};
 ghost use Rattle.dm_session.specs.Turning.{stops_behind};
@@ -63,7 +64,7 @@ fn serve_next<D: Disk, O: Origin, K: Keeper, C: Clock, X: Conns>(
 ) -> Turned
     requires desk { IsDesk D.tells D.history desk.old }
     ensures kept { IsDesk D.tells D.history desk.new }
-    ensures turned { TurnedSo X.tells (AnswersAt (IsTold C.tells C.next) D.tells K.tells D.history D.faults (λ o. said_of (O.says o))) (service_of K.rows K.faults desk.old keeper.old) (service_of K.rows K.faults desk.new keeper.new) (X.over conns.old) (X.over conns.new) (X.served conns.old) (X.served conns.new) (Rose (X.faults conns.old Failed) (X.faults conns.new Failed)) result }
+    ensures turned { TurnedSo X.tells (AnswersAt (IsTold C.tells C.next) D.tells K.tells D.history D.faults (λ o. said_of (O.says o))) (service_of K.rows K.faults desk.old keeper.old) (service_of K.rows K.faults desk.new keeper.new) (X.over conns.old) (X.over conns.new) (X.served conns.old) (X.served conns.new) (SameCounts (X.faults conns.old) (X.faults conns.new)) (Rose (X.faults conns.old Failed) (X.faults conns.new Failed)) result }
     ensures steps { Steps D.tells D.history D.faults D.far (λ o. said_of (O.says o)) desk.old desk.new }
     ensures later { NoneFell (X.faults conns.old) (X.faults conns.new) }
 {
@@ -90,7 +91,7 @@ pub(crate) fn serve_all<D: Disk, O: Origin, K: Keeper, C: Clock, X: Conns>(
 ) -> Closed
     requires desk { IsDesk D.tells D.history desk.old }
     ensures kept { IsDesk D.tells D.history desk.new }
-    ensures closes { ClosesSo X.tells (AnswersAt (IsTold C.tells C.next) D.tells K.tells D.history D.faults (λ o. said_of (O.says o))) (service_of K.rows K.faults desk.old keeper.old) (service_of K.rows K.faults desk.new keeper.new) (X.over conns.old) (X.over conns.new) (X.served conns.old) (X.served conns.new) (Rose (X.faults conns.old Failed) (X.faults conns.new Failed)) requests result }
+    ensures closes { ClosesSo X.tells (AnswersAt (IsTold C.tells C.next) D.tells K.tells D.history D.faults (λ o. said_of (O.says o))) (service_of K.rows K.faults desk.old keeper.old) (service_of K.rows K.faults desk.new keeper.new) (X.over conns.old) (X.over conns.new) (X.served conns.old) (X.served conns.new) (SameCounts (X.faults conns.old) (X.faults conns.new)) (Rose (X.faults conns.old Failed) (X.faults conns.new Failed)) requests result }
     ensures steps { Steps D.tells D.history D.faults D.far (λ o. said_of (O.says o)) desk.old desk.new }
     ensures later { NoneFell (X.faults conns.old) (X.faults conns.new) }
 {

@@ -116,7 +116,7 @@ module _ {D O : Type 0} (told : Type 0) (counts : D → DiskKind → ℕ) (old n
   made_some : (fault : ArchiveFault) {T U : Type 0} → ArchiveAnswers told old.desk new.desk old.past.rows new.past.rows (Err fault) → HasCause {T = T} disk_kind (counts old.desk.disk) (counts new.desk.disk) (Err fault)
       → HasCause {T = U} history_kind old.past.faults new.past.faults (Err fault) → IfOk result (λ reply. reply ≡ trouble_of (archive_trouble fault)) → Made
   made_some faults.Keeper stop cause history replied =
-      serving.lost history.cause (cut_at stop.gone (stop.item ∷ stop.rest) stop.are stop.is.0 (λ knows. begun_gone stop.gone (stop.item ∷ stop.rest) stop.are (stop.is.1 knows))) (gives (trouble_of troubles.History) result replied)
+      serving.lost tt history.cause (cut_at stop.gone (stop.item ∷ stop.rest) stop.are stop.is.0 (λ knows. begun_gone stop.gone (stop.item ∷ stop.rest) stop.are (stop.is.1 knows))) (λ none. absurd cc) (gives (trouble_of troubles.History) result replied)
   made_some faults.NoMemory stop cause history replied =
       serving.wanted (cut_at stop.gone (stop.item ∷ stop.rest) stop.are stop.is.0 (λ knows. either (stop.is.1 knows))) (gives (trouble_of troubles.Memory) result replied)
     where

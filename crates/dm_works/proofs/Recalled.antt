@@ -1,9 +1,10 @@
 -- What was answered of a list and a history.
-use Rattle.std.proofs.Common.{◌≡◌, inl, inr, ℕ, Bool, true, false, List, [], ◌∷◌, length, Option, Some, None, Result, Ok, Err, refl, sym, ◌∙◌, ap, subst, arith}
+use Rattle.std.proofs.Common.{◌≡◌, ◌⊎◌, inl, inr, ℕ, Bool, true, false, List, [], ◌∷◌, length, Option, Some, None, Result, Ok, Err, refl, sym, ◌∙◌, ap, subst, arith}
 use Rattle.std.specs.Prelude.{IfOk, IsTrue, is_none}
 use Rattle.std.specs.List.{All}
 use Rattle.std.proofs.lemmas.Bool.{false≢true}
 use Rattle.dm_types.specs.Faults.{HasCause, NoneFell}
+use Rattle.dm_types.specs.declared.item.Item.{Item}
 use Rattle.dm_types.specs.declared.item.ItemId.{ItemId}
 use Rattle.dm_types.specs.declared.kinds.DiskKind.{DiskKind}
 use Rattle.dm_types.specs.declared.memory.NoMemory.{NoMemory}
@@ -25,7 +26,7 @@ use Rattle.dm_shown.specs.declared.named.Named.{Named}
 use Rattle.dm_shown.specs.declared.named.Named.TheVariants as names
 use Rattle.dm_past.specs.ByRows.{FindsFree, IsFree}
 use Rattle.dm_past.specs.Coming.{IsBegun, first_of}
-use Rattle.dm_past.specs.Past.{Past}
+use Rattle.dm_past.specs.Past.{HasFailed, Past}
 use Rattle.dm_past.proofs.Answered.{free_by, row_found}
 use Rattle.dm_call.specs.Asked.{asked}
 use Rattle.dm_call.specs.declared.call.Call.{Call}
@@ -86,6 +87,19 @@ pub finds_same : (told : Type 0) (read word : List ℕ) (seen list : Listing) (r
     → FindsFree told word (record { items = list.items; rows = rows }) answer
 finds_same told read word seen list rows answer read_is seen_is finds =
     subst (λ (l : Listing). FindsFree told word (record { items = l.items; rows = rows }) answer) seen_is (subst (λ (w : List ℕ). FindsFree told w (record { items = seen.items; rows = rows }) answer) read_is finds)
+
+-- whether the history is asked for a request
+abbrev pub asks_for : List Item → Result Call Refusal → Bool
+asks_for items (Ok call) = is_asked items (task_by call)
+asks_for items (Err refusal) = false
+
+-- the history was asked, and failed, which its count shows, and nothing was done
+pub record IsUnanswered {D O : Type 0} (told : Type 0) (asks : Bool) (old new : Service D O) (result : Result ApiReply NoMemory) : Type 0 where
+  pub asked_is : IsTrue asks
+  pub failed : HasFailed old.past new.past
+  pub same : new.desk ≡ old.desk
+  pub rest : RowsStay told old new
+  pub reply : Gives (trouble_of troubles.History) result
 
 -- no step of a change
 none_first : (change : Change) (rows : List Row) → changed_rows (first_of 0 change) rows ≡ rows
@@ -260,15 +274,16 @@ module _ {D O : Type 0} (told : Type 0) (counts : D → DiskKind → ℕ) (old n
         by_asked (Ok call) = (serving.wanting desk_same rows_same (inr none), later)
         by_asked (Err refusal) = (serving.wanted (none_done (api_refused refusal) desk_same rows_same) (inr none), later)
 
-    -- Over a history that tells its rows it is what the request does, or the first steps of it.
-    pub as_told : told → (request : ApiRequest) → AnswersAsked told counts old (asked request) at result new → Does told counts (api (seen_of old.desk at) old.past.rows request) old new result
+    -- Over a history that tells its rows it is what the request does, or the first steps of it; or the history, which is asked for it, failed.
+    pub as_told : told → (request : ApiRequest) → AnswersAsked told counts old (asked request) at result new
+        → Does told counts (api (seen_of old.desk at) old.past.rows request) old new result ⊎ IsUnanswered told (asks_for old.desk.items.items (asked request)) old new result
     as_told knows request answers = by_asked (asked request) answers
       where
-        by_task : (task : Task) → TaskAnswers told counts old task at result new → Does told counts (api_task (seen_of old.desk at) (recall_of old.desk.items.items old.past.rows task) task) old new result
-        by_task task (serving.by recall recalls does) = subst (λ (r : Recall). Does told counts (api_task (seen_of old.desk at) r task) old new result) (recalls.is knows) does
-        by_task task (serving.unanswered is failed same rest reply) = serving.lost failed (none_done (api_task (seen_of old.desk at) (recall_of old.desk.items.items old.past.rows task) task) same rest) reply
-        by_task task (serving.wanting same rest reply) = serving.wanted (none_done (api_task (seen_of old.desk at) (recall_of old.desk.items.items old.past.rows task) task) same rest) reply
+        by_task : (task : Task) → TaskAnswers told counts old task at result new → Does told counts (api_task (seen_of old.desk at) (recall_of old.desk.items.items old.past.rows task) task) old new result ⊎ IsUnanswered told (is_asked old.desk.items.items task) old new result
+        by_task task (serving.by recall recalls does) = inl (subst (λ (r : Recall). Does told counts (api_task (seen_of old.desk at) r task) old new result) (recalls.is knows) does)
+        by_task task (serving.unanswered is failed same rest reply) = inr (record { asked_is = is; failed = failed; same = same; rest = rest; reply = reply })
+        by_task task (serving.wanting same rest reply) = inl (serving.wanted (none_done (api_task (seen_of old.desk at) (recall_of old.desk.items.items old.past.rows task) task) same rest) reply)
 
-        by_asked : (a : Result Call Refusal) → AnswersAsked told counts old a at result new → Does told counts (api_asked (seen_of old.desk at) old.past.rows a) old new result
+        by_asked : (a : Result Call Refusal) → AnswersAsked told counts old a at result new → Does told counts (api_asked (seen_of old.desk at) old.past.rows a) old new result ⊎ IsUnanswered told (asks_for old.desk.items.items a) old new result
         by_asked (Ok call) found = by_task (task_by call) found.0
-        by_asked (Err refusal) found = found.0
+        by_asked (Err refusal) found = inl found.0

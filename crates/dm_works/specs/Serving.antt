@@ -1,5 +1,5 @@
 -- How a request was answered from a list and a history: what it made of both, and what is replied.
-use Rattle.std.specs.Prelude.{◌≡◌, ◌⊎◌, ℕ, false, List, [], ◌++◌, Result, Ok, Err, IsTrue}
+use Rattle.std.specs.Prelude.{◌≡◌, ◌≢◌, ◌⊎◌, ℕ, false, List, [], ◌++◌, Result, Ok, Err, IsTrue}
 use Rattle.dm_types.specs.Faults.{NoneFell, Rose}
 use Rattle.dm_types.specs.declared.kinds.DiskKind.{DiskKind}
 use Rattle.dm_types.specs.declared.memory.NoMemory.{NoMemory}
@@ -8,7 +8,7 @@ use Rattle.dm_store.specs.Becomes.{Fell}
 use Rattle.dm_store.specs.View.{View}
 use Rattle.dm_hist.specs.declared.keeper.KeeperFault.{KeeperFault}
 use Rattle.dm_hist.specs.declared.row.Row.{Row}
-use Rattle.dm_archive.specs.Doing.{changed_rows}
+use Rattle.dm_archive.specs.Doing.{Change, changed_rows, puts}
 use Rattle.dm_past.specs.Coming.{IsBegun}
 use Rattle.dm_past.specs.Past.{HasFailed, Past, past_of}
 use Rattle.dm_call.specs.declared.call.Call.{Call}
@@ -46,6 +46,11 @@ pub record WasCut {D O : Type 0} (told : Type 0) (doing : Api) (old new : Servic
   pub there : DidAll recorded old.desk new.desk
   pub begun : told → IsBegun old.past.rows new.past.rows doing.change recorded
 
+-- rows are put: items go to the history
+abbrev pub PutsRows : Change → Type 0
+PutsRows (puts rows) = Unit {0}
+PutsRows change = ⊥
+
 -- A call on the disk failed. One of the entries failed, behind those that were recorded, and the rows were changed as far, or one step more; or the part of an
 -- item failed, and the rows are as before.
 abbrev pub FellFrom : {D O : Type 0} → Type 0 → (D → DiskKind → ℕ) → DiskKind → Api → Service D O → Service D O → Type 0
@@ -60,8 +65,8 @@ pub data Does {D O : Type 0} (told : Type 0) (counts : D → DiskKind → ℕ) (
   -- a call on the disk failed, which its count shows
   fell : (kind : DiskKind) → Rose (counts old.desk.disk kind) (counts new.desk.disk kind) → FellFrom told counts kind doing old new → Gives (trouble_of troubles.Disk) result
       → Does told counts doing old new result
-  -- the history failed, which its count shows
-  lost : HasFailed old.past new.past → WasCut told doing old new → Gives (trouble_of troubles.History) result → Does told counts doing old new result
+  -- the history failed, which its count shows, where rows are put, and an item is left that goes to it
+  lost : PutsRows doing.change → HasFailed old.past new.past → (cut : WasCut told doing old new) → cut.rest ≢ [] → Gives (trouble_of troubles.History) result → Does told counts doing old new result
   -- memory was wanting
   wanted : WasCut told doing old new → Gives (trouble_of troubles.Memory) result → Does told counts doing old new result
 

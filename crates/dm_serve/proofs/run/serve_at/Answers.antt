@@ -5,4 +5,4 @@ pub returns-in-Ok-clause-serves : goal.returns-in-Ok-clause-serves
 returns-in-Ok-clause-serves g c = inr (record { port = c.in-Ok.field-0; asks = c.in-Ok.ensures.ok; runs = c.run_session.ensures.runs })
 
 pub returns-in-Err-clause-serves : goal.returns-in-Err-clause-serves
-returns-in-Err-clause-serves g c = inl (record { none = c.in-Err.ensures.err; said_is = c.fixed.ensures; same = refl; line_is = refl; past_is = refl })
+returns-in-Err-clause-serves g c = inl (record { none = c.in-Err.ensures.err; said_is = c.fixed.ensures; same = refl; line_is = refl; none_failed = λ kind. refl; past_is = refl })

@@ -4,6 +4,7 @@ use Rattle.dm_edge.specs.Counts.{raised_by}
 use Rattle.dm_edge.specs.declared.fault.EdgeFault.TheVariants.{Failed}
 use Rattle.dm_conns.specs.Conn.{Over, over_of}
 use Rattle.dm_store.specs.Origin.{said_of}
+use Rattle.dm_does.specs.Printing.{SameCounts}
 use Rattle.dm_works.specs.Requests.{AnswersOn}
 use Rattle.dm_works.specs.Serving.{service_of}
 use Rattle.dm_works.proofs.Stepping.{steps_same}
@@ -24,7 +25,7 @@ returns-in-Ok-clause-turned g c =
     let answers = AnswersAt (IsTold g.C.Clock.tells g.C.Clock.next) g.D.Disk.tells K.tells g.D.Disk.history g.D.Disk.faults (λ o. said_of (g.O.Origin.says o)) in
     let service = service_of K.rows K.faults c.args.desk.now c.args.keeper.now in
     let then = service_of K.rows K.faults c.serve_one-served.new.desk c.serve_one-served.new.keeper in
-    turned_so X.tells answers service then (X.over c.args.conns.now) (X.over c.done.new.self) (X.served c.args.conns.now) (X.served c.done.new.self) (Rose (X.faults c.args.conns.now Failed) (X.faults c.done.new.self Failed))
+    turned_so X.tells answers service then (X.over c.args.conns.now) (X.over c.done.new.self) (X.served c.args.conns.now) (X.served c.done.new.self) (SameCounts (X.faults c.args.conns.now) (X.faults c.done.new.self)) (Rose (X.faults c.args.conns.now Failed) (X.faults c.done.new.self Failed))
     (stops_behind c.serve_one-served.result) c.stops.result c.by_stops.result c.stops.ensures c.by_stops.ensures
     (turn_served X.tells (S.told before) (S.told after) (S.faults before) (S.faults after) (λ told. c.in-Ok.ensures.fresh (tell told)) (c.in-Ok.ensures.unfailed Failed)
     answers service then c.now-at.result c.serve_one-served.result
@@ -34,6 +35,7 @@ returns-in-Ok-clause-turned g c =
     (X.over c.args.conns.now) (X.over c.done.new.self) (X.served c.args.conns.now) (X.served c.done.new.self)
     (λ told. c.done.ensures.over told ∙ ap (λ (o : List Over). o ++ over_of (S.told after) (S.faults after) ∷ []) c.in-Ok.ensures.over)
     (c.done.ensures.served ∙ ap (raised_by 1) c.in-Ok.ensures.served))
+    (λ kind. c.done.ensures.faults kind ∙ c.in-Ok.ensures.quiet kind)
 
 pub returns-in-Ok-clause-later : goal.returns-in-Ok-clause-later
 returns-in-Ok-clause-later g c = λ kind. let accepted = c.in-Ok.ensures.cause.later kind in let same = c.done.ensures.faults kind in omega (arith, accepted, same)
