@@ -22,6 +22,11 @@ use Rattle.dm_attempt.specs.declared.ended.Ended.TheVariants as ended
 use Rattle.dm_fetch.specs.Attempts.{Attempts, EndedBy, refused, tried, wanting}
 use Rattle.dm_fetch.specs.Fetches.{Fetched, Fetches, again, once}
 use Rattle.dm_fetch.specs.Starts.{BeginRefuses, scene_of}
+use Rattle.dm_disk.specs.Memory.{far_in, faults_in, history_in}
+use Rattle.dm_edge.specs.declared.origin.Generated.{Generated}
+use Rattle.dm_generated_net.specs.Wired.{NetState}
+use Rattle.dm_rehearse_run.specs.Kept.{Desk, says_of}
+use Rattle.dm_rehearse_run.specs.Sessions.{Brings, no_faults, only_item, parts_at_once}
 
 -- what one call or several keep of a desk
 pub record Goes {D O : Type 0} (tells : Type 0) (clock : D → Clock) (says : O → Says) (old new : View D O) : Type 0 where
@@ -100,3 +105,9 @@ module _ {D O : Type 0} (tells : Type 0) (clock : D → Clock) (says : O → Say
   pub fetched_goes : (old new : View D O) (was now : List Closed) (before after : NetFault → ℕ) (end : Ended)
       → Fetched tells clock says far counts net old new was now before after id slices at end → FetchGoes old new end
   fetched_goes old new was now before after end did = fetches_goes new now after end old was before User did.more did.all
+
+-- a fetch that came to its end
+pub whole_brings : (old new : Desk) (before after : NetState) (end : Ended) → end ≡ ended.Complete
+    → Fetched (Unit {0}) history_in (λ (o : Generated). says_of o.seed) far_in faults_in (Unit {0}) old new before.closed after.closed no_faults no_faults only_item parts_at_once 0 end → Brings old new before after
+whole_brings old new before after end is =
+    subst (λ (e : Ended). Fetched (Unit {0}) history_in (λ (o : Generated). says_of o.seed) far_in faults_in (Unit {0}) old new before.closed after.closed no_faults no_faults only_item parts_at_once 0 e) is

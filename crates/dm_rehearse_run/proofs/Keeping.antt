@@ -1,5 +1,5 @@
 -- What is kept of a rehearsal's disk, from its start to the file that is published.
-use Rattle.std.proofs.Common.{◌≡◌, ℕ, Bool, true, false, List, [], ◌++◌, length, take, Option, Some, None, Result, Ok, Err, IfOk, inl, inr, refl, sym, ◌∙◌, ap, subst}
+use Rattle.std.proofs.Common.{◌≡◌, ℕ, Bool, true, false, List, [], ◌++◌, length, take, Option, Some, None, Result, Ok, Err, IfOk, ◌⊎◌, inl, inr, refl, sym, ◌∙◌, ap, subst}
 use Rattle.std.specs.Prelude.{slice_get}
 use Rattle.std.proofs.lemmas.Bool.{true≢false}
 use Rattle.std.proofs.lemmas.Option.{same_Some}
@@ -12,11 +12,12 @@ use Rattle.dm_types.specs.declared.memory.NoMemory.{NoMemory}
 use Rattle.dm_disk_model.specs.Disk.{DiskState, History as Clock, Image, IsSoundDisk, MayLeave, now, reading}
 use Rattle.dm_disk_model.specs.Folder.{Names}
 use Rattle.dm_disk_model.proofs.PendingNames.{each_synced}
+use Rattle.dm_disk_model.proofs.Reaching.{joined, weaker}
 use Rattle.dm_disk.specs.declared.memory.MemoryDisk.{MemoryDisk}
 use Rattle.dm_disk.specs.declared.image.Pick.{Pick}
 use Rattle.dm_disk.specs.Calls.{disk_after, empty_disk, empty_folder, history_of}
 use Rattle.dm_disk.specs.Image.{HoldsPicked}
-use Rattle.dm_disk.specs.Memory.{held_in, history_in}
+use Rattle.dm_disk.specs.Memory.{IsFresh, held_in, history_in}
 use Rattle.dm_disk.specs.SoundCalls.{sound_after}
 use Rattle.dm_edge.specs.declared.origin.Generated.{Generated}
 use Rattle.dm_item.specs.Lawful.{History, items_of}
@@ -28,14 +29,18 @@ use Rattle.dm_kept.specs.Files.{Covers, Says}
 use Rattle.dm_kept.specs.Kept.{IsKeptNow, Kept, Recovers}
 use Rattle.dm_kept.specs.Recovery.{Found, Through, recovered}
 use Rattle.dm_kept.proofs.Entered.{items_are}
-use Rattle.dm_kept.proofs.Resting.{empty_kept, sits_kept}
+use Rattle.dm_kept.proofs.Resting.{empty_kept, kept_weaker, sits_kept}
 use Rattle.dm_store.specs.Keeps.{HoldsOf, Keeps, RestsBy, added}
 use Rattle.dm_store.specs.Lives.{covers_of}
 use Rattle.dm_answers.specs.Change.{ChangeAnswers}
+use Rattle.dm_answers.specs.Opening.{OpenKeeps, OpensTo}
 use Rattle.dm_does.specs.Headline.{BeginsWith, IsThere}
 use Rattle.dm_does.proofs.Begun.{begins_kept}
 use Rattle.dm_does.proofs.Whole.{there}
-use Rattle.dm_rehearse_run.specs.Kept.{Desk, Holds, IsComplete, IsGenerated, IsKeptFor, IsOpen, says_of}
+use Rattle.dm_generated_net.specs.Wired.{NetState}
+use Rattle.dm_rehearse.specs.Picking.{pick_of}
+use Rattle.dm_rehearse_run.specs.Kept.{Desk, Holds, IsComplete, IsGenerated, IsGuarded, IsKeptFor, IsOpen, says_of}
+use Rattle.dm_rehearse_run.specs.Sessions.{Brings, Continues, GoesOn, HasFile, IsCrashed, IsEmpty, Resumes}
 
 -- an empty disk is kept
 empty_now : (number : ℕ) → IsKeptFor number empty_disk
@@ -141,3 +146,43 @@ pub complete_generated_if : (desk : Desk) (id : ℕ) (item : Item) (result : Res
     → IfOk result (λ name. IsGenerated (held_in desk.disk) name desk.origin.seed)
 complete_generated_if desk id item (Ok name) whole held found complete = complete_generated desk id item name whole held found complete
 complete_generated_if desk id item (Err fault) whole held found complete = tt
+
+-- At each moment of some calls on a desk its disk is guarded.
+pub calls_go_on : (old new : Desk) → Keeps (Unit {0}) history_in (λ (o : Generated). says_of o.seed) old new → Holds old → GoesOn old.origin.seed old.disk new.disk
+calls_go_on old new keeps held =
+    let goes = keeps tt true held.history held.holds in
+    let P : Found → Type 0 = Through held.history (added old new ++ new.failed) in
+    weaker (history_in old.disk) (history_in new.disk) (Kept true (says_of old.origin.seed) P) (IsGuarded old.origin.seed)
+    (λ disk. kept_weaker true (says_of old.origin.seed) P (λ found. Unit {0}) disk (λ found is. tt)) goes.moments
+
+-- the same of an opening
+pub opening_goes_on : (number at : ℕ) (disk left : MemoryDisk) → OpenKeeps (Unit {0}) (says_of number) (history_in disk) (history_in left) at → IsKeptFor number (held_in disk) → GoesOn number disk left
+opening_goes_on number at disk left keeps was =
+    let P : Found → Type 0 = λ found. Through was.earlier was.more found ⊎ OpensTo (Unit {0}) (history_in disk) (history_in left) at found in
+    weaker (history_in disk) (history_in left) (Kept true (says_of number) P) (IsGuarded number)
+    (λ d. kept_weaker true (says_of number) P (λ found. Unit {0}) d (λ found is. tt)) (keeps was.earlier was.more was.kept)
+
+-- so one behind another
+pub goes_on_then : (number : ℕ) (first middle last : MemoryDisk) → GoesOn number first middle → GoesOn number middle last → GoesOn number first last
+goes_on_then number first middle last = joined (history_in first) (history_in middle) (history_in last) (IsGuarded number)
+
+-- an empty disk, and what a crash leaves
+pub empty_if : (result : Result MemoryDisk NoMemory) → IfOk result (λ disk. history_in disk ≡ history_of []) → IfOk result (IsFresh [] None) → IfOk result IsEmpty
+empty_if (Ok disk) empty fresh = record { empty = empty; fresh = fresh }
+empty_if (Err fault) empty fresh = tt
+
+pub crash_if : (number : ℕ) (pick : Pick) (old : MemoryDisk) (result : Result MemoryDisk NoMemory) → pick ≡ pick_of number → IfOk result (λ left. HoldsPicked pick (held_in old) (held_in left))
+    → IfOk result (λ left. MayLeave (held_in old) (reading (held_in left))) → IfOk result (IsFresh [] None) → IfOk result (IsCrashed number old)
+crash_if number pick old (Ok left) is picked leaves fresh =
+    record { picked = subst (λ (p : Pick). HoldsPicked p (held_in old) (held_in left)) is picked; leaves = leaves; fresh = fresh }
+crash_if number pick old (Err fault) is picked leaves fresh = tt
+
+-- the file of a complete item
+pub file_if : (desk : Desk) (item : Item) (result : Result (List ℕ) NoMemory) → item_in 1 desk.items.items ≡ Some item → IfOk result (IsComplete item) → IfOk result (HasFile desk)
+file_if desk item (Ok name) there complete = record { item = item; there = there; complete = complete }
+file_if desk item (Err fault) there complete = tt
+
+-- what the second session does on its desk
+pub continues_if : (old asked new : Desk) (before after : NetState) (result : Result (List ℕ) NoMemory) → Resumes old asked → Brings asked new before after → IfOk result (HasFile new) → IfOk result (λ name. Continues old new name before after)
+continues_if old asked new before after (Ok name) resumes brings file = record { asked = asked; resumes = resumes; brings = brings; file = file }
+continues_if old asked new before after (Err fault) resumes brings file = tt

@@ -11,7 +11,7 @@ use Rattle.dm_edge.specs.Origin.{generated_byte}
 use Rattle.dm_edge.specs.declared.origin.Generated.{Generated}
 use Rattle.dm_item.specs.Lawful.{History}
 use Rattle.dm_kept.specs.Files.{Says}
-use Rattle.dm_kept.specs.Kept.{IsKeptNow}
+use Rattle.dm_kept.specs.Kept.{IsKeptNow, Kept}
 use Rattle.dm_store.specs.Keeps.{HoldsOf}
 use Rattle.dm_store.specs.Origin.{said_of}
 use Rattle.dm_store.specs.View.{View}
@@ -23,6 +23,10 @@ says_of number = said_of (λ address key place byte. byte ≡ generated_byte num
 -- Whatever a crash now leaves of the disk recovers to a front of one history, and each of its complete items is whole, by what the origin says.
 abbrev pub IsKeptFor : ℕ → DiskState → Type 0
 IsKeptFor number disk = IsKeptNow true (says_of number) disk
+
+-- Whatever a crash now leaves of the disk recovers, and each of its complete items is whole.
+abbrev pub IsGuarded : ℕ → DiskState → Type 0
+IsGuarded number disk = Kept true (says_of number) (λ found. Unit {0}) disk
 
 -- a desk over a disk in memory, with the origin of a number
 abbrev pub Desk : Type 0

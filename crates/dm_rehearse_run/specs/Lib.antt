@@ -1,4 +1,5 @@
 pub mod Kept
+pub mod Sessions
 pub mod Reading
 pub mod Running
 pub mod Printing

@@ -3,11 +3,14 @@ use Rattle.std.specs.Prelude.{◌≡◌, ℕ, List}
 use Rattle.sha2.specs.Sha256.{sha256}
 use Rattle.dm_disk_model.specs.declared.place.Area.TheVariants.{Files}
 use Rattle.dm_disk_model.specs.Disk.{DiskState}
+use Rattle.dm_disk.specs.declared.memory.MemoryDisk.{MemoryDisk}
+use Rattle.dm_disk.specs.Memory.{held_in}
 use Rattle.dm_generated.specs.Content.{content_of}
 use Rattle.dm_rehearse.specs.declared.counting.Counts.{Counts}
 use Rattle.dm_rehearse.specs.Counting.{AddUp}
 use Rattle.dm_rehearse.specs.Lines.{lines_of}
 use Rattle.dm_rehearse_run.specs.Reading.{IsContentSum, IsCountedOn}
+use Rattle.dm_rehearse_run.specs.Sessions.{AreSessions}
 
 -- the journal's counts, and they add up
 pub record IsCounted (disk : DiskState) (counts : Counts) : Type 0 where
@@ -26,8 +29,9 @@ pub record IsTold (disk : DiskState) (name : List ℕ) (number : ℕ) (text : Li
   pub published : IsPublished disk name number sum
   pub text_is : text ≡ lines_of number counts.attempts counts.broke sum
 
--- so of some disk, and the name of the file on it
+-- so of the disk that the two sessions of the number left, with the crash between them, and of the file that they brought
 pub record IsPrinted (number : ℕ) (text : List ℕ) : Type 0 where
-  pub disk : DiskState
+  pub disk : MemoryDisk
   pub name : List ℕ
-  pub told : IsTold disk name number text
+  pub ran : AreSessions number disk name
+  pub told : IsTold (held_in disk) name number text

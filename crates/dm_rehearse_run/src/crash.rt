@@ -1,9 +1,7 @@
 ghost use Rattle.std.specs.Prelude.{IfOk};
-ghost use Rattle.dm_disk.specs.Image.{HoldsPicked};
 ghost use Rattle.dm_disk.specs.Memory.{held_in};
-ghost use Rattle.dm_disk_model.specs.Disk.{MayLeave, reading};
-ghost use Rattle.dm_rehearse.specs.Picking.{pick_of};
 ghost use Rattle.dm_rehearse_run.specs.Kept.{IsKeptFor};
+ghost use Rattle.dm_rehearse_run.specs.Sessions.{IsCrashed};
 
 use dm_disk::MemoryDisk;
 use dm_rehearse::pick_of;
@@ -13,8 +11,7 @@ use std::alloc::Global;
 /// What a crash leaves of a disk: the least image where the number is even, and the disk as it reads where it is
 /// odd.
 pub fn crashed(alloc: Global, disk: MemoryDisk, number: u32) -> Result<MemoryDisk, NoMemory>
-    ensures picked { IfOk result (λ left. HoldsPicked (pick_of number) (held_in disk) (held_in left)) }
-    ensures leaves { IfOk result (λ left. MayLeave (held_in disk) (reading (held_in left))) }
+    ensures crash { IfOk result (IsCrashed number disk) }
     ensures kept { IsKeptFor number (held_in disk) → IfOk result (λ left. IsKeptFor number (held_in left)) }
 {
     disk.image(alloc, pick_of(number))

@@ -2,6 +2,7 @@ ghost use Rattle.std.specs.Prelude.{◌≡◌, ℕ, IfOk};
 ghost use Rattle.dm_disk.specs.Memory.{held_in, history_in};
 ghost use Rattle.dm_rehearse_run.specs.Kept.{IsGenerated, IsKeptFor};
 ghost use Rattle.dm_rehearse_run.specs.Running.{IsCounted, IsPrinted, IsPublished, IsTold};
+ghost use Rattle.dm_rehearse_run.specs.Sessions.{AreSessions, IsEmpty};
 
 use crate::crash::crashed;
 use crate::reading::{counts_on, sum_on};
@@ -61,14 +62,16 @@ fn told(alloc: Global, brought: Brought, number: u64) -> Result<Text, NoMemory>
 
 /// An empty disk.
 fn new_disk(alloc: Global) -> Result<MemoryDisk, NoMemory>
-    ensures { IfOk result (λ disk. (number : ℕ) → IsKeptFor number (held_in disk)) }
+    ensures empty { IfOk result IsEmpty }
+    ensures kept { IfOk result (λ disk. (number : ℕ) → IsKeptFor number (held_in disk)) }
 {
     MemoryDisk::new(alloc, Listed::new(alloc), None)
 }
 
 /// The two sessions of a number, one behind the other, with the crash between them. One net serves both.
 fn sessions(alloc: Global, number: u32) -> Result<Brought, NoMemory>
-    ensures { IfOk result (λ brought. IsGenerated (held_in brought.disk) brought.name number) }
+    ensures ran { IfOk result (λ brought. AreSessions number brought.disk brought.name) }
+    ensures generated { IfOk result (λ brought. IsGenerated (held_in brought.disk) brought.name number) }
 {
     let mut net = GeneratedNet::new(number);
     let disk = new_disk(alloc)?;

@@ -2,7 +2,7 @@ ghost use Rattle.std.specs.Prelude.{◌≡◌, ◌≢◌, ℕ, IfSome, IfNone};
 ghost use Rattle.dm_words.specs.Asked.{Asked, Asks, Rehearses as AskedFor, asked};
 ghost use Rattle.dm_list.specs.Writing.{outputs_of};
 ghost use Rattle.dm_rehearse.specs.Rehearsal.{Rehearses};
-ghost use Rattle.dm_rehearse_run.specs.Printing.{PrintsRehearsal};
+ghost use Rattle.dm_rehearse_run.specs.Printing.{ComesOf, PrintsRehearsal};
 
 use crate::rehearsal::rehearse;
 use dm_edge::Sink;
@@ -36,7 +36,8 @@ pub fn read_rehearsal(words: &[Text]) -> Option<u32>
 
 /// How a rehearsal ends: with its four lines, or for want of memory.
 fn ending_of(alloc: Global, number: u32) -> Ending
-    ensures { Rehearses number result }
+    ensures says { Rehearses number result }
+    ensures comes { ComesOf number result }
 {
     match rehearse(alloc, number) {
         Ok(text) => Ending::new(alloc, Verdict::Done, text),

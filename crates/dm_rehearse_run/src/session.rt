@@ -1,7 +1,10 @@
 ghost use Rattle.std.specs.Prelude.{◌≡◌, ◌≤◌, false, length, IfOk, OnOk};
 ghost use Rattle.dm_answers.specs.Add.{IsOrder};
 ghost use Rattle.dm_disk.specs.Memory.{held_in};
+ghost use Rattle.dm_generated.specs.Content.{address_text};
+ghost use Rattle.dm_request.specs.Fault.{IsRead};
 ghost use Rattle.dm_rehearse_run.specs.Kept.{Holds, IsComplete, IsGenerated, IsKeptFor, IsOpen};
+ghost use Rattle.dm_rehearse_run.specs.Sessions.{Adds, Begins, Brings, Continues, FirstSession, GoesOn, HasFile, IsOrderOf, Opens, Resumes, SecondSession, Tries};
 
 use dm_answers::{Order, Taken};
 use dm_attempt::Ended;
@@ -32,8 +35,10 @@ fn opened(
     origin: Generated,
 ) -> Result<Desk<MemoryDisk, Generated>, NoMemory>
     requires { IsKeptFor origin.seed (held_in disk) }
+    ensures opens { IfOk result (Opens origin disk) }
     ensures open { IfOk result IsOpen }
     ensures origin { IfOk result (λ desk. desk.origin ≡ origin) }
+    ensures goes_on { IfOk result (λ desk. GoesOn origin.seed disk desk.disk) }
 {
     match Desk::open(alloc, disk, origin, LIMITS, MOMENT) {
         Ok(desk) => Ok(desk),
@@ -45,7 +50,8 @@ fn opened(
 }
 
 fn address_for(alloc: Global, number: u32) -> Result<Address, NoMemory>
-    ensures { IfOk result (λ address. length address.text ≤ 4096) }
+    ensures is { IfOk result (IsRead (address_text number)) }
+    ensures short { IfOk result (λ address. length address.text ≤ 4096) }
 {
     let text = address_of(alloc, u64::from(number))?;
     match read_address(alloc, text.bytes()) {
@@ -56,7 +62,8 @@ fn address_for(alloc: Global, number: u32) -> Result<Address, NoMemory>
 
 /// What is to be brought: the address of the number's content, and nothing else is stated.
 fn order_for(alloc: Global, number: u32) -> Result<Order, NoMemory>
-    ensures { IfOk result IsOrder }
+    ensures is { IfOk result (IsOrderOf number) }
+    ensures keeps { IfOk result IsOrder }
 {
     let address = address_for(alloc, number)?;
     Ok(Order {
@@ -71,8 +78,10 @@ fn order_for(alloc: Global, number: u32) -> Result<Order, NoMemory>
 fn added(desk: &mut Desk<MemoryDisk, Generated>, order: Order) -> Result<ItemId, NoMemory>
     requires order { IsOrder order }
     requires open { IsOpen desk.old }
+    ensures adds { IfOk result (Adds order desk.old desk.new) }
     ensures open { OnOk result (IsOpen desk.new) }
     ensures origin { OnOk result (desk.new.origin ≡ desk.old.origin) }
+    ensures goes_on { OnOk result (GoesOn desk.old.origin.seed desk.old.disk desk.new.disk) }
 {
     match desk.add(order, MOMENT) {
         Ok(Taken::New(id)) => Ok(id),
@@ -90,8 +99,10 @@ fn attempted(
 )
     requires origin { record { seed = net.old.number } ≡ desk.old.origin }
     requires held { Holds desk.old }
+    ensures tries { Tries id desk.old desk.new net.old net.new }
     ensures held { Holds desk.new }
     ensures origin { desk.new.origin ≡ desk.old.origin }
+    ensures goes_on { GoesOn desk.old.origin.seed desk.old.disk desk.new.disk }
     ensures stays { net.new.number ≡ net.old.number }
 {
     let _ended = attempt(alloc, desk, net, id, By::User, SLICES, &[], MOMENT);
@@ -107,8 +118,10 @@ fn begin(
     requires order { IsOrder order }
     requires origin { record { seed = net.old.number } ≡ desk.old.origin }
     requires open { IsOpen desk.old }
+    ensures begins { OnOk result (Begins order desk.old desk.new net.old net.new) }
     ensures held { OnOk result (Holds desk.new) }
     ensures origin { OnOk result (desk.new.origin ≡ desk.old.origin) }
+    ensures goes_on { OnOk result (GoesOn desk.old.origin.seed desk.old.disk desk.new.disk) }
     ensures stays { net.new.number ≡ net.old.number }
 {
     let id = added(desk, order)?;
@@ -119,7 +132,8 @@ fn begin(
 /// The disk of a desk.
 fn closed(desk: Desk<MemoryDisk, Generated>) -> MemoryDisk
     requires { Holds desk }
-    ensures { IsKeptFor desk.origin.seed (held_in result) }
+    ensures is { result ≡ desk.disk }
+    ensures kept { IsKeptFor desk.origin.seed (held_in result) }
 {
     desk.into_disk()
 }
@@ -132,6 +146,7 @@ pub fn first_session(
     number: u32,
 ) -> Result<MemoryDisk, NoMemory>
     requires { IsKeptFor net.old.number (held_in disk) }
+    ensures first { IfOk result (λ left. FirstSession number disk left net.old net.new) }
     ensures kept { IfOk result (λ left. IsKeptFor net.old.number (held_in left)) }
     ensures stays { net.new.number ≡ net.old.number }
 {
@@ -144,8 +159,10 @@ pub fn first_session(
 /// Asks for the item again.
 fn resumed(desk: &mut Desk<MemoryDisk, Generated>) -> Result<(), NoMemory>
     requires { IsOpen desk.old }
+    ensures resumes { OnOk result (Resumes desk.old desk.new) }
     ensures open { OnOk result (IsOpen desk.new) }
     ensures origin { OnOk result (desk.new.origin ≡ desk.old.origin) }
+    ensures goes_on { OnOk result (GoesOn desk.old.origin.seed desk.old.disk desk.new.disk) }
 {
     match desk.resume(ITEM) {
         Ok(()) => Ok(()),
@@ -161,9 +178,11 @@ fn fetched(
 ) -> Result<(), NoMemory>
     requires origin { record { seed = net.old.number } ≡ desk.old.origin }
     requires open { IsOpen desk.old }
+    ensures brings { OnOk result (Brings desk.old desk.new net.old net.new) }
     ensures whole { OnOk result (desk.new.broken ≡ false) }
     ensures held { OnOk result (Holds desk.new) }
     ensures origin { OnOk result (desk.new.origin ≡ desk.old.origin) }
+    ensures goes_on { OnOk result (GoesOn desk.old.origin.seed desk.old.disk desk.new.disk) }
 {
     match fetch(alloc, desk, net, ITEM, SLICES, &[], MOMENT) {
         Ended::Complete => Ok(()),
@@ -186,7 +205,8 @@ fn name_of(alloc: Global, item: &Item) -> Result<Text, NoMemory>
 fn name_in(alloc: Global, desk: &Desk<MemoryDisk, Generated>) -> Result<Text, NoMemory>
     requires whole { desk.now.broken ≡ false }
     requires held { Holds desk.now }
-    ensures { IfOk result (λ name. IsGenerated (held_in desk.now.disk) name desk.now.origin.seed) }
+    ensures file { IfOk result (HasFile desk.now) }
+    ensures generated { IfOk result (λ name. IsGenerated (held_in desk.now.disk) name desk.now.origin.seed) }
 {
     match desk.view(ITEM) {
         Some(item) => name_of(alloc, item),
@@ -202,7 +222,9 @@ fn go_on(
 ) -> Result<Text, NoMemory>
     requires origin { record { seed = net.old.number } ≡ desk.old.origin }
     requires open { IsOpen desk.old }
-    ensures { IfOk result (λ name. IsGenerated (held_in desk.new.disk) name net.old.number) }
+    ensures continues { IfOk result (λ name. Continues desk.old desk.new name net.old net.new) }
+    ensures generated { IfOk result (λ name. IsGenerated (held_in desk.new.disk) name net.old.number) }
+    ensures goes_on { OnOk result (GoesOn desk.old.origin.seed desk.old.disk desk.new.disk) }
 {
     resumed(desk)?;
     fetched(alloc, desk, net)?;
@@ -223,7 +245,8 @@ pub fn second_session(
     net: &mut GeneratedNet,
 ) -> Result<Brought, NoMemory>
     requires { IsKeptFor net.old.number (held_in disk) }
-    ensures { IfOk result (λ brought. IsGenerated (held_in brought.disk) brought.name net.old.number) }
+    ensures second { IfOk result (λ brought. SecondSession disk brought.disk brought.name net.old net.new) }
+    ensures generated { IfOk result (λ brought. IsGenerated (held_in brought.disk) brought.name net.old.number) }
 {
     let mut desk = opened(alloc, disk, net.origin())?;
     let name = go_on(alloc, &mut desk, net)?;

@@ -3,8 +3,8 @@ use Rattle.dm_attempt.specs.declared.ended.Ended.{Ended}
 use Rattle.dm_disk.specs.Memory.{faults_in, far_in, history_in}
 use Rattle.dm_edge.specs.declared.origin.Generated.{Generated}
 use Rattle.dm_rehearse_run.specs.Kept.{says_of}
-use Rattle.dm_rehearse_run.proofs.Going.{EndsWhole, fetched_goes}
-use Rattle.dm_rehearse_run.proofs.Keeping.{goes_holds}
+use Rattle.dm_rehearse_run.proofs.Going.{EndsWhole, fetched_goes, whole_brings}
+use Rattle.dm_rehearse_run.proofs.Keeping.{calls_go_on, goes_holds}
 use Rattle.dm_rehearse_run.proofs.session.fetched.Goals as goal
 
 pub returns-in-Complete-clause-whole : goal.returns-in-Complete-clause-whole
@@ -21,3 +21,11 @@ pub returns-in-Complete-clause-origin : goal.returns-in-Complete-clause-origin
 returns-in-Complete-clause-origin c =
     let did = fetched_goes (Unit {0}) history_in (λ (o : Generated). says_of o.seed) far_in faults_in (Unit {0}) (record { 0 = 1 }) 4 0 c.args.desk.now c.fetch.new.desk _ _ _ _ c.fetch.result c.fetch.ensures.did in
     did.goes.origin
+
+pub returns-in-Complete-clause-brings : goal.returns-in-Complete-clause-brings
+returns-in-Complete-clause-brings c = whole_brings c.args.desk.now c.fetch.new.desk c.args.net.now c.fetch.new.net c.fetch.result c.in-Complete.is c.fetch.ensures.did
+
+pub returns-in-Complete-clause-goes_on : goal.returns-in-Complete-clause-goes_on
+returns-in-Complete-clause-goes_on c =
+    let did = fetched_goes (Unit {0}) history_in (λ (o : Generated). says_of o.seed) far_in faults_in (Unit {0}) (record { 0 = 1 }) 4 0 c.args.desk.now c.fetch.new.desk _ _ _ _ c.fetch.result c.fetch.ensures.did in
+    calls_go_on c.args.desk.now c.fetch.new.desk did.goes.keeps c.requires.open.held
