@@ -1,13 +1,10 @@
-use Rattle.std.proofs.Common.{rules, ◌≢◌, ◌↔◌, IsTrue}
-use Rattle.std.specs.List.{All}
+use Rattle.std.proofs.Common.{rules, ◌≢◌}
 use Rattle.dm_types.specs.declared.item.Item.{Item}
 use Rattle.dm_item.specs.Words.{HasNoWord}
-use Rattle.dm_item.proofs.Each.{by_front, by_place}
+use Rattle.dm_item.proofs.Each.{tests}
 use Rattle.dm_item.proofs.names.has_no_word.Goals as goal
 
 pub returns : goal.returns
 returns c =
     let each = λ (item : Item). item.word ≢ c.args.word.now in
-    let all : IsTrue c.all.result ↔ All each c.args.items.now = search rules in
-    (λ yes. by_front each (HasNoWord c.args.word.now) tt (λ item rest here others. (here, others)) c.args.items.now (all.0 yes),
-    λ has. all.1 (by_place each (HasNoWord c.args.word.now) (λ item rest both. both) c.args.items.now has))
+    tests each (HasNoWord c.args.word.now) c.all.result c.args.items.now tt (λ item rest here others. (here, others)) (λ item rest both. both) (search rules)
