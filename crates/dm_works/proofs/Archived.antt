@@ -1,5 +1,5 @@
 -- Items that were moved to the history, as a request is answered.
-use Rattle.std.proofs.Common.{◌≡◌, ◌⊎◌, inl, inr, ℕ, ◌+◌, true, false, List, [], ◌∷◌, ◌++◌, length, map, take, Result, Ok, Err, refl, sym, ◌∙◌, ap, subst, append_assoc, length-append}
+use Rattle.std.proofs.Common.{◌≡◌, ◌≢◌, ◌⊎◌, inl, inr, ℕ, ◌+◌, true, false, List, [], ◌∷◌, ◌++◌, length, map, take, Result, Ok, Err, refl, sym, ◌∙◌, ap, subst, append_assoc, length-append}
 use Rattle.std.specs.Prelude.{IfOk, IsTrue}
 use Rattle.std.proofs.lemmas.Bool.{false≢true}
 use Rattle.std.proofs.lemmas.List.{length-map, map-append, take-map}
@@ -72,6 +72,10 @@ is_some : (gone : List Item) (item : Item) (rest : List Item) → is_any (gone +
 is_some [] item rest = refl
 is_some (first ∷ gone) item rest = refl
 
+-- and so do their entries
+some_left : (first : Entry) (more : History) → first ∷ more ≢ []
+some_left first more none = absurd cc
+
 module _ {D O : Type 0} (told : Type 0) (counts : D → DiskKind → ℕ) (old new : Service D O) (at : ℕ) (result : Result ApiReply NoMemory) where
   abbrev over : List Item
   over = overs old.desk.items.items
@@ -101,7 +105,7 @@ module _ {D O : Type 0} (told : Type 0) (counts : D → DiskKind → ℕ) (old n
   begun_more gone item rest are is =
       begun (gone ++ item ∷ []) rest (archives gone) (are ∙ sym (append_assoc gone (item ∷ []) rest)) (inr (length-append gone (item ∷ []) ∙ ap (λ (n : ℕ). n + 1) (sym (length-map gone leaves)))) is
 
-  cut_at : (gone rest : List Item) → over ≡ gone ++ rest → Leave gone old.desk new.desk → (told → IsBegun old.past.rows new.past.rows (puts (map row_of_item over)) (archives gone)) → WasCut told doing old new
+  abbrev cut_at : (gone rest : List Item) → over ≡ gone ++ rest → Leave gone old.desk new.desk → (told → IsBegun old.past.rows new.past.rows (puts (map row_of_item over)) (archives gone)) → WasCut told doing old new
   cut_at gone rest are leave so_far = record { recorded = archives gone; rest = archives rest; entries_are = ap archives are ∙ archives_then gone rest; there = left gone leave; begun = so_far }
 
   all_whole : Leave over old.desk new.desk → IsTrue (is_any over) → old.desk.broken ≡ false
@@ -116,7 +120,7 @@ module _ {D O : Type 0} (told : Type 0) (counts : D → DiskKind → ℕ) (old n
   made_some : (fault : ArchiveFault) {T U : Type 0} → ArchiveAnswers told old.desk new.desk old.past.rows new.past.rows (Err fault) → HasCause {T = T} disk_kind (counts old.desk.disk) (counts new.desk.disk) (Err fault)
       → HasCause {T = U} history_kind old.past.faults new.past.faults (Err fault) → IfOk result (λ reply. reply ≡ trouble_of (archive_trouble fault)) → Made
   made_some faults.Keeper stop cause history replied =
-      serving.lost tt history.cause (cut_at stop.gone (stop.item ∷ stop.rest) stop.are stop.is.0 (λ knows. begun_gone stop.gone (stop.item ∷ stop.rest) stop.are (stop.is.1 knows))) (λ none. absurd cc) (gives (trouble_of troubles.History) result replied)
+      serving.lost tt history.cause (cut_at stop.gone (stop.item ∷ stop.rest) stop.are stop.is.0 (λ knows. begun_gone stop.gone (stop.item ∷ stop.rest) stop.are (stop.is.1 knows))) (some_left (leaves stop.item) (archives stop.rest)) (gives (trouble_of troubles.History) result replied)
   made_some faults.NoMemory stop cause history replied =
       serving.wanted (cut_at stop.gone (stop.item ∷ stop.rest) stop.are stop.is.0 (λ knows. either (stop.is.1 knows))) (gives (trouble_of troubles.Memory) result replied)
     where
