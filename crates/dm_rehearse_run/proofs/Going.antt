@@ -1,5 +1,5 @@
 -- What attempts keep of a desk.
-use Rattle.std.proofs.Common.{◌≡◌, ℕ, Bool, false, [], List, refl, sym, ◌∙◌, ap, subst}
+use Rattle.std.proofs.Common.{◌≡◌, ℕ, Bool, false, [], List, sym, ◌∙◌, ap, subst}
 use Rattle.dm_types.specs.declared.item.Item.{Item}
 use Rattle.dm_types.specs.declared.item.ItemId.{ItemId}
 use Rattle.dm_types.specs.declared.kinds.By.{By}

@@ -1,6 +1,6 @@
 -- What is kept of a rehearsal's disk, from its start to the file that is published.
-use Rattle.std.proofs.Common.{◌≡◌, ℕ, Bool, true, false, List, [], ◌++◌, length, take, Option, Some, None, Result, Ok, Err, IfOk, ◌⊎◌, inl, inr, refl, sym, ◌∙◌, ap, subst}
-use Rattle.std.specs.Prelude.{slice_get}
+use Rattle.std.proofs.Common.{◌≡◌, ℕ, Bool, true, false, List, [], ◌++◌, length, take, Some, None, Result, Ok, Err, IfOk, ◌⊎◌, inl, inr, refl, sym, ◌∙◌, ap, subst}
+use Rattle.std.specs.Prelude.{OnOk}
 use Rattle.std.proofs.lemmas.Bool.{true≢false}
 use Rattle.std.proofs.lemmas.Option.{same_Some}
 use Rattle.dm_types.specs.declared.entry.Entry.{Entry}
@@ -15,7 +15,7 @@ use Rattle.dm_disk_model.proofs.PendingNames.{each_synced}
 use Rattle.dm_disk_model.proofs.Reaching.{joined, weaker}
 use Rattle.dm_disk.specs.declared.memory.MemoryDisk.{MemoryDisk}
 use Rattle.dm_disk.specs.declared.image.Pick.{Pick}
-use Rattle.dm_disk.specs.Calls.{disk_after, empty_disk, empty_folder, history_of}
+use Rattle.dm_disk.specs.Calls.{empty_disk, empty_folder, history_of}
 use Rattle.dm_disk.specs.Image.{HoldsPicked}
 use Rattle.dm_disk.specs.Memory.{IsFresh, held_in, history_in}
 use Rattle.dm_disk.specs.SoundCalls.{sound_after}
@@ -26,8 +26,8 @@ use Rattle.dm_item.specs.Row.{is_complete}
 use Rattle.dm_journal.specs.AtRest.{journal_name}
 use Rattle.dm_journal.proofs.Resting.{image_as_read}
 use Rattle.dm_kept.specs.Files.{Covers, Says}
-use Rattle.dm_kept.specs.Kept.{IsKeptNow, Kept, Recovers}
-use Rattle.dm_kept.specs.Recovery.{Found, Through, recovered}
+use Rattle.dm_kept.specs.Kept.{Kept, Recovers}
+use Rattle.dm_kept.specs.Recovery.{Found, Through}
 use Rattle.dm_kept.proofs.Entered.{items_are}
 use Rattle.dm_kept.proofs.Resting.{empty_kept, kept_weaker, sits_kept}
 use Rattle.dm_store.specs.Keeps.{HoldsOf, Keeps, RestsBy, added}
@@ -37,10 +37,11 @@ use Rattle.dm_answers.specs.Opening.{OpenKeeps, OpensTo}
 use Rattle.dm_does.specs.Headline.{BeginsWith, IsThere}
 use Rattle.dm_does.proofs.Begun.{begins_kept}
 use Rattle.dm_does.proofs.Whole.{there}
-use Rattle.dm_generated_net.specs.Wired.{NetState}
+use Rattle.dm_generated_net.specs.Wired.{NetState, fresh_net}
 use Rattle.dm_rehearse.specs.Picking.{pick_of}
 use Rattle.dm_rehearse_run.specs.Kept.{Desk, Holds, IsComplete, IsGenerated, IsGuarded, IsKeptFor, IsOpen, says_of}
-use Rattle.dm_rehearse_run.specs.Sessions.{Brings, Continues, GoesOn, HasFile, IsCrashed, IsEmpty, Resumes}
+use Rattle.dm_rehearse_run.specs.Sessions.{AreSessions, Brings, Continues, FirstSession, GoesOn, HasFile, IsCrashed, IsEmpty, Resumes, SecondSession}
+use Rattle.dm_rehearse_run.specs.declared.session.Brought.{Brought}
 
 -- an empty disk is kept
 empty_now : (number : ℕ) → IsKeptFor number empty_disk
@@ -186,3 +187,14 @@ file_if desk item (Err fault) there complete = tt
 pub continues_if : (old asked new : Desk) (before after : NetState) (result : Result (List ℕ) NoMemory) → Resumes old asked → Brings asked new before after → IfOk result (HasFile new) → IfOk result (λ name. Continues old new name before after)
 continues_if old asked new before after (Ok name) resumes brings file = record { asked = asked; resumes = resumes; brings = brings; file = file }
 continues_if old asked new before after (Err fault) resumes brings file = tt
+
+-- both sessions, by what the second one answers
+pub sessions_if : (number : ℕ) (start lost found : MemoryDisk) (net last : NetState) (result : Result Brought NoMemory) → IsEmpty start → FirstSession number start lost (fresh_net number) net → net.number ≡ number → IsCrashed number lost found
+    → IfOk result (λ brought. SecondSession found brought.disk brought.name net last) → IfOk result (λ brought. AreSessions number brought.disk brought.name)
+sessions_if number start lost found net last (Ok brought) empty first same crash second =
+    record { start = start; empty = empty; lost = lost; net = net; net_is = same; first = first; found = found; crash = crash; last = last; second = second }
+sessions_if number start lost found net last (Err fault) empty first same crash second = tt
+
+pub on_ok : {T E P : Type 0} (result : Result T E) → P → OnOk result P
+on_ok (Ok value) is = is
+on_ok (Err fault) is = tt

@@ -1,11 +1,9 @@
 -- What a rehearsal says, by what it tells of its disk.
 use Rattle.std.proofs.Common.{◌≡◌, ℕ, List, Result, Ok, Err, IfOk, inl, inr, ◌∙◌, ap}
-use Rattle.sha2.specs.Sha256.{sha256}
 use Rattle.dm_types.specs.declared.memory.NoMemory.{NoMemory}
 use Rattle.dm_disk_model.specs.Disk.{DiskState}
 use Rattle.dm_disk.specs.declared.memory.MemoryDisk.{MemoryDisk}
 use Rattle.dm_disk.specs.Memory.{held_in}
-use Rattle.dm_generated.specs.Content.{content_of}
 use Rattle.dm_report.specs.Said.{EndsAs, Said}
 use Rattle.dm_report.specs.declared.verdict.Verdict.TheVariants.{Done}
 use Rattle.dm_rehearse.specs.declared.counting.Counts.{Counts}

@@ -1,11 +1,9 @@
 -- What a rehearsal tells of the disk on which its content was brought.
 use Rattle.std.specs.Prelude.{◌≡◌, ℕ, List}
-use Rattle.sha2.specs.Sha256.{sha256}
 use Rattle.dm_disk_model.specs.declared.place.Area.TheVariants.{Files}
 use Rattle.dm_disk_model.specs.Disk.{DiskState}
 use Rattle.dm_disk.specs.declared.memory.MemoryDisk.{MemoryDisk}
 use Rattle.dm_disk.specs.Memory.{held_in}
-use Rattle.dm_generated.specs.Content.{content_of}
 use Rattle.dm_rehearse.specs.declared.counting.Counts.{Counts}
 use Rattle.dm_rehearse.specs.Counting.{AddUp}
 use Rattle.dm_rehearse.specs.Lines.{lines_of}

@@ -1,5 +1,5 @@
 -- A rehearsal: two sessions over one net and a disk in memory, and the crash between them.
-use Rattle.std.specs.Prelude.{◌≡◌, ℕ, List, [], Option, Some, None, Ok}
+use Rattle.std.specs.Prelude.{◌≡◌, ℕ, List, [], Some, None, Ok}
 use Rattle.dm_types.specs.declared.entry.Entry.TheVariants as entries
 use Rattle.dm_types.specs.declared.item.Item.{Item}
 use Rattle.dm_types.specs.declared.item.ItemId.{ItemId}
@@ -135,9 +135,9 @@ pub record AreSessions (number : ℕ) (disk : MemoryDisk) (name : List ℕ) : Ty
   pub empty : IsEmpty start
   pub lost : MemoryDisk
   pub net : NetState
+  pub net_is : net.number ≡ number
   pub first : FirstSession number start lost (fresh_net number) net
   pub found : MemoryDisk
   pub crash : IsCrashed number lost found
-  pub net_is : net.number ≡ number
   pub last : NetState
   pub second : SecondSession found disk name net last

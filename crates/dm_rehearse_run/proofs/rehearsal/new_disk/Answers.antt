@@ -1,4 +1,4 @@
-use Rattle.std.proofs.Common.{List, None, Result, IfOk, subst}
+use Rattle.std.proofs.Common.{List, None, IfOk, subst}
 use Rattle.dm_disk.specs.declared.failing.FailingCall.{FailingCall}
 use Rattle.dm_disk.specs.Memory.{IsFresh}
 use Rattle.dm_rehearse_run.proofs.Keeping.{empty_if, new_kept_if}
