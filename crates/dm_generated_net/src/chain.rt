@@ -1,4 +1,5 @@
-ghost use Rattle.std.specs.Prelude.{◌≡◌, [], ◌∷◌, ◌++◌};
+ghost use Rattle.std.specs.Prelude.{◌≡◌, ◌≤◌, [], ◌∷◌, ◌++◌, length, IfSome, IsTrue};
+ghost use Rattle.dm_generated_net.specs.Own.{AreMarked, IsMarked};
 
 use dm_generated::Reply;
 use dm_types::{Address, Attempt, ItemId, Text};
@@ -79,4 +80,38 @@ impl Chain {
             top: Link::More(newest, spare),
         };
     }
+
+    /// Marks the wires of these connections, and counts them. `None` where one of them is of another number, not below
+    /// the bound, or marked already.
+    pub(crate) fn mark(&self, number: u64, bound: u64, marks: &mut [bool]) -> Option<u64>
+        requires { bound ≤ length marks.old }
+        ensures count { IfSome result (λ count. count ≡ length self.now) }
+        ensures marked { IfSome result (λ _. AreMarked number bound self.now marks.new) }
+        ensures long { length marks.new ≡ length marks.old }
+    {
+        match &self.top {
+            Link::End => Some(0),
+            Link::More(newest, older) => match older.mark(number, bound, marks) {
+                Some(count) if mark_one(newest, number, bound, marks) => count.checked_add(1),
+                _ => None,
+            },
+        }
+    }
+}
+
+/// Marks the wire of a connection, where it is one of the number, below the bound and not marked already.
+fn mark_one(connection: &Connection, number: u64, bound: u64, marks: &mut [bool]) -> bool
+    requires { bound ≤ length marks.old }
+    ensures marked { IsTrue result → IsMarked number bound connection.now marks.old marks.new }
+    ensures long { length marks.new ≡ length marks.old }
+{
+    if connection.number != number || connection.wire >= bound {
+        return false;
+    }
+    let wire = connection.wire as usize;
+    if marks[wire] {
+        return false;
+    }
+    marks[wire] = true;
+    true
 }

@@ -1,6 +1,7 @@
-ghost use Rattle.std.specs.Prelude.{◌≡◌, ◌<◌, ℕ, IfOk, IfErr};
+ghost use Rattle.std.specs.Prelude.{◌≡◌, ◌<◌, ℕ, IfOk, IfErr, IsTrue};
 ghost use Rattle.dm_edge.specs.Wire.{IsFresh};
 ghost use Rattle.dm_edge.specs.declared.fault.WireFault.{WireFault as OnWire};
+ghost use Rattle.dm_generated_net.specs.Own.{AreItsOwn};
 ghost use Rattle.dm_generated_net.specs.Wired.{fresh_net, Connects, ConnectFails, told_by, with_closed};
 
 use crate::GeneratedWire;
@@ -41,6 +42,21 @@ impl GeneratedNet {
             number: u64::from(number),
             wires: 0,
             closed: Chain::new(),
+        }
+    }
+
+    /// Whether the connections that are over are those of all wires that it made, each once. Of more than 64 it doesn't
+    /// say so.
+    pub fn is_over(&self) -> bool
+        ensures { IsTrue result → AreItsOwn self.now }
+    {
+        if self.wires > 64 {
+            return false;
+        }
+        let mut marks = [false; 64];
+        match self.closed.mark(self.number, self.wires, &mut marks) {
+            Some(count) => count == self.wires,
+            None => false,
         }
     }
 }

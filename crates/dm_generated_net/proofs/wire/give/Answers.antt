@@ -1,4 +1,4 @@
-use Rattle.std.proofs.Common.{◌≡◌, ◌-◌, length, drop, take, ap, sym, ◌∙◌, arith}
+use Rattle.std.proofs.Common.{◌-◌, length, take, ap, ◌∙◌, arith}
 use Rattle.std.proofs.lemmas.List.{take_rest}
 use Rattle.std.specs.Prelude.{min}
 use Rattle.dm_generated_net.proofs.Giving.{by_body, by_head, stream_length}
