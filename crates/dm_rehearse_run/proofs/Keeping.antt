@@ -37,11 +37,10 @@ use Rattle.dm_answers.specs.Opening.{OpenKeeps, OpensTo}
 use Rattle.dm_does.specs.Headline.{BeginsWith, IsThere}
 use Rattle.dm_does.proofs.Begun.{begins_kept}
 use Rattle.dm_does.proofs.Whole.{there}
-use Rattle.dm_generated_net.specs.Wired.{NetState, fresh_net}
+use Rattle.dm_generated_net.specs.Wired.{NetState}
 use Rattle.dm_rehearse.specs.Picking.{pick_of}
 use Rattle.dm_rehearse_run.specs.Kept.{Desk, Holds, IsComplete, IsGenerated, IsGuarded, IsKeptFor, IsOpen, says_of}
-use Rattle.dm_rehearse_run.specs.Sessions.{AreSessions, Brings, Continues, FirstSession, GoesOn, HasFile, IsCrashed, IsEmpty, Resumes, SecondSession}
-use Rattle.dm_rehearse_run.specs.declared.session.Brought.{Brought}
+use Rattle.dm_rehearse_run.specs.Sessions.{Brings, Continues, GoesOn, HasFile, IsCrashed, IsEmpty, Resumes}
 
 -- an empty disk is kept
 empty_now : (number : ℕ) → IsKeptFor number empty_disk
@@ -187,13 +186,6 @@ file_if desk item (Err fault) there complete = tt
 pub continues_if : (old asked new : Desk) (before after : NetState) (result : Result (List ℕ) NoMemory) → Resumes old asked → Brings asked new before after → IfOk result (HasFile new) → IfOk result (λ name. Continues old new name before after)
 continues_if old asked new before after (Ok name) resumes brings file = record { asked = asked; resumes = resumes; brings = brings; file = file }
 continues_if old asked new before after (Err fault) resumes brings file = tt
-
--- both sessions, by what the second one answers
-pub sessions_if : (number : ℕ) (start lost found : MemoryDisk) (net last : NetState) (result : Result Brought NoMemory) → IsEmpty start → FirstSession number start lost (fresh_net number) net → net.number ≡ number → IsCrashed number lost found
-    → IfOk result (λ brought. SecondSession found brought.disk brought.name net last) → IfOk result (λ brought. AreSessions number brought.disk brought.name)
-sessions_if number start lost found net last (Ok brought) empty first same crash second =
-    record { start = start; empty = empty; lost = lost; net = net; net_is = same; first = first; found = found; crash = crash; last = last; second = second }
-sessions_if number start lost found net last (Err fault) empty first same crash second = tt
 
 pub on_ok : {T E P : Type 0} (result : Result T E) → P → OnOk result P
 on_ok (Ok value) is = is

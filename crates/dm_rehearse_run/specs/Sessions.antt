@@ -16,6 +16,7 @@ use Rattle.dm_edge.specs.declared.origin.Generated.{Generated}
 use Rattle.dm_item.specs.Listing.{item_in}
 use Rattle.dm_request.specs.Fault.{IsRead}
 use Rattle.dm_generated.specs.Content.{address_text}
+use Rattle.dm_generated_net.specs.Own.{AreItsOwn}
 use Rattle.dm_generated_net.specs.Wired.{NetState, fresh_net}
 use Rattle.dm_answers.specs.declared.order.Order.{Order}
 use Rattle.dm_answers.specs.declared.order.Taken.TheVariants.{New}
@@ -129,7 +130,8 @@ pub record IsEmpty (disk : MemoryDisk) : Type 0 where
   pub empty : history_in disk ≡ history_of []
   pub fresh : IsFresh [] None disk
 
--- Both sessions of a number over one net, which begins with no connection made: the first on an empty disk, and the second on what the crash left. It ends with this disk, and a file of this name.
+-- Both sessions of a number over one net, which begins with no connection made: the first on an empty disk, and the second on what the crash left. It ends with this disk, and a file of this name. The
+-- connections of both are those of the net's own wires, from the first one on, each once.
 pub record AreSessions (number : ℕ) (disk : MemoryDisk) (name : List ℕ) : Type 0 where
   pub start : MemoryDisk
   pub empty : IsEmpty start
@@ -140,4 +142,6 @@ pub record AreSessions (number : ℕ) (disk : MemoryDisk) (name : List ℕ) : Ty
   pub found : MemoryDisk
   pub crash : IsCrashed number lost found
   pub last : NetState
+  pub last_is : last.number ≡ number
+  pub own : AreItsOwn last
   pub second : SecondSession found disk name net last

@@ -68,7 +68,8 @@ fn new_disk(alloc: Global) -> Result<MemoryDisk, NoMemory>
     MemoryDisk::new(alloc, Listed::new(alloc), None)
 }
 
-/// The two sessions of a number, one behind the other, with the crash between them. One net serves both.
+/// The two sessions of a number, one behind the other, with the crash between them. One net serves both, and all
+/// connections are its own.
 fn sessions(alloc: Global, number: u32) -> Result<Brought, NoMemory>
     ensures ran { IfOk result (λ brought. AreSessions number brought.disk brought.name) }
     ensures generated { IfOk result (λ brought. IsGenerated (held_in brought.disk) brought.name number) }
@@ -77,7 +78,12 @@ fn sessions(alloc: Global, number: u32) -> Result<Brought, NoMemory>
     let disk = new_disk(alloc)?;
     let disk = first_session(alloc, disk, &mut net, number)?;
     let disk = crashed(alloc, disk, number)?;
-    second_session(alloc, disk, &mut net)
+    let brought = second_session(alloc, disk, &mut net)?;
+    if net.is_over() {
+        Ok(brought)
+    } else {
+        Err(NoMemory)
+    }
 }
 
 /// What a rehearsal prints: the content of the number is brought by two sessions, with a crash between them, and

@@ -183,6 +183,7 @@ fn fetched(
     ensures held { OnOk result (Holds desk.new) }
     ensures origin { OnOk result (desk.new.origin ≡ desk.old.origin) }
     ensures goes_on { OnOk result (GoesOn desk.old.origin.seed desk.old.disk desk.new.disk) }
+    ensures stays { net.new.number ≡ net.old.number }
 {
     match fetch(alloc, desk, net, ITEM, SLICES, &[], MOMENT) {
         Ended::Complete => Ok(()),
@@ -225,6 +226,7 @@ fn go_on(
     ensures continues { IfOk result (λ name. Continues desk.old desk.new name net.old net.new) }
     ensures generated { IfOk result (λ name. IsGenerated (held_in desk.new.disk) name net.old.number) }
     ensures goes_on { OnOk result (GoesOn desk.old.origin.seed desk.old.disk desk.new.disk) }
+    ensures stays { net.new.number ≡ net.old.number }
 {
     resumed(desk)?;
     fetched(alloc, desk, net)?;
@@ -247,6 +249,7 @@ pub fn second_session(
     requires { IsKeptFor net.old.number (held_in disk) }
     ensures second { IfOk result (λ brought. SecondSession disk brought.disk brought.name net.old net.new) }
     ensures generated { IfOk result (λ brought. IsGenerated (held_in brought.disk) brought.name net.old.number) }
+    ensures stays { net.new.number ≡ net.old.number }
 {
     let mut desk = opened(alloc, disk, net.origin())?;
     let name = go_on(alloc, &mut desk, net)?;

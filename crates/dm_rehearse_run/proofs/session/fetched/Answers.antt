@@ -1,4 +1,4 @@
-use Rattle.std.proofs.Common.{subst}
+use Rattle.std.proofs.Common.{ap, subst}
 use Rattle.dm_attempt.specs.declared.ended.Ended.{Ended}
 use Rattle.dm_disk.specs.Memory.{faults_in, far_in, history_in}
 use Rattle.dm_edge.specs.declared.origin.Generated.{Generated}
@@ -29,3 +29,12 @@ pub returns-in-Complete-clause-goes_on : goal.returns-in-Complete-clause-goes_on
 returns-in-Complete-clause-goes_on c =
     let did = fetched_goes (Unit {0}) history_in (λ (o : Generated). says_of o.seed) far_in faults_in (Unit {0}) (record { 0 = 1 }) 4 0 c.args.desk.now c.fetch.new.desk _ _ _ _ c.fetch.result c.fetch.ensures.did in
     calls_go_on c.args.desk.now c.fetch.new.desk did.goes.keeps c.requires.open.held
+
+pub returns-in-Complete-clause-stays : goal.returns-in-Complete-clause-stays
+returns-in-Complete-clause-stays c = ap (λ (o : Generated). o.seed) c.fetch.ensures.stays
+
+pub returns-in-Stopped-clause-stays : goal.returns-in-Stopped-clause-stays
+returns-in-Stopped-clause-stays c = ap (λ (o : Generated). o.seed) c.fetch.ensures.stays
+
+pub returns-in-Fault-clause-stays : goal.returns-in-Fault-clause-stays
+returns-in-Fault-clause-stays c = ap (λ (o : Generated). o.seed) c.fetch.ensures.stays
