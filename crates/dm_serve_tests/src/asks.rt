@@ -54,8 +54,20 @@ pub(crate) const PAUSED_A_LISTED: &str = "{\"items\":[{\"address\":\"http://h/a\
 
 pub(crate) const BOTH_LISTED: &str = "{\"items\":[{\"address\":\"http://h/a\",\"autos\":0,\"covered\":0,\"id\":1,\"name\":null,\"phase\":\"waiting\",\"reason\":null,\"sha256\":null,\"total\":null,\"word\":\"w1\"},{\"address\":\"http://h/b\",\"autos\":0,\"covered\":0,\"id\":2,\"name\":null,\"phase\":\"waiting\",\"reason\":null,\"sha256\":null,\"total\":null,\"word\":\"w2\"}]}";
 
+pub(crate) const BOTH_CANCELLED_LISTED: &str = "{\"items\":[{\"address\":\"http://h/a\",\"autos\":0,\"covered\":0,\"id\":1,\"name\":null,\"phase\":\"cancelled\",\"reason\":40,\"sha256\":null,\"total\":null,\"word\":\"w1\"},{\"address\":\"http://h/b\",\"autos\":0,\"covered\":0,\"id\":2,\"name\":null,\"phase\":\"cancelled\",\"reason\":40,\"sha256\":null,\"total\":null,\"word\":\"w2\"}]}";
+
+pub(crate) const CANCELLED_B_LISTED: &str = "{\"items\":[{\"address\":\"http://h/b\",\"autos\":0,\"covered\":0,\"id\":2,\"name\":null,\"phase\":\"cancelled\",\"reason\":40,\"sha256\":null,\"total\":null,\"word\":\"w2\"}]}";
+
 /// Rows of the history.
 pub(crate) const NO_ROWS: &str = "{\"rows\":[]}";
+
+pub(crate) const A_ROW: &str = "{\"address\":\"http://h/a\",\"at\":0,\"id\":1,\"name\":null,\"phase\":\"cancelled\",\"sha256\":null,\"total\":null,\"word\":\"w1\"}";
+
+pub(crate) const A_IN_HISTORY: &str = "{\"rows\":[{\"address\":\"http://h/a\",\"at\":0,\"id\":1,\"name\":null,\"phase\":\"cancelled\",\"sha256\":null,\"total\":null,\"word\":\"w1\"}]}";
+
+pub(crate) const B_IN_HISTORY: &str = "{\"rows\":[{\"address\":\"http://h/b\",\"at\":0,\"id\":2,\"name\":null,\"phase\":\"cancelled\",\"sha256\":null,\"total\":null,\"word\":\"w2\"}]}";
+
+pub(crate) const BOTH_IN_HISTORY: &str = "{\"rows\":[{\"address\":\"http://h/a\",\"at\":0,\"id\":1,\"name\":null,\"phase\":\"cancelled\",\"sha256\":null,\"total\":null,\"word\":\"w1\"},{\"address\":\"http://h/b\",\"at\":0,\"id\":2,\"name\":null,\"phase\":\"cancelled\",\"sha256\":null,\"total\":null,\"word\":\"w2\"}]}";
 
 /// Refusals.
 pub(crate) const NO_ITEM: &str = "{\"error\":\"item\"}";

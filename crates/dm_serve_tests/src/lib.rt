@@ -7,6 +7,14 @@ mod asks;
 #[cfg(test)]
 mod bench;
 #[cfg(test)]
+mod codes;
+#[cfg(test)]
+mod cuts;
+#[cfg(test)]
+mod desks;
+#[cfg(test)]
+mod history;
+#[cfg(test)]
 mod rows;
 #[cfg(test)]
 mod told;

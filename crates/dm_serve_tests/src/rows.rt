@@ -11,7 +11,7 @@ use dm_run_bench::Left;
 use std::test::Fail;
 
 /// The journal with the first item: a Reopened and an Added.
-const A_ALONE: &[u8] =
+pub(crate) const A_ALONE: &[u8] =
     b"DMJRNL1\n\x01\0\0\0\x0d\x0d\0\0\0\x01\0\0\0\0\0\0\0\0\x01\0\0\0\x20\x01\0\0\0\x01\0\x02w1\0\x0ahttp://h/a\0\0\0\0\0\0\0\0\0\0\0\0";
 
 /// The same and two more turns: both items, of which the first is paused and the second removed.

@@ -41,7 +41,7 @@ pub(crate) type Turn = (&'static [u8], Told);
 const ROOM: u64 = 4096;
 
 impl Head {
-    fn status(self) -> u16 {
+    pub(crate) fn status(self) -> u16 {
         match self {
             Head::Ok | Head::Text => 200,
             Head::BadRequest => 400,
@@ -98,14 +98,7 @@ pub(crate) fn is_reply(alloc: Global, written: &[u8], head: Head, content: &str)
     }
 }
 
-/// The status of what is written, where it is a reply.
-pub(crate) fn status_of(told: Told) -> Option<u16> {
-    match told {
-        Told::Reply(head, _) => Some(head.status()),
-        Told::Bytes(_) | Told::Cut | Told::Unread | Told::Unwritten => None,
-    }
-}
-
+/// Whether this is written.
 pub(crate) fn is_told(alloc: Global, written: &[u8], told: Told) -> bool {
     match told {
         Told::Reply(head, content) => is_reply(alloc, written, head, content),
