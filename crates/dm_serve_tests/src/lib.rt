@@ -13,6 +13,8 @@ mod cuts;
 #[cfg(test)]
 mod desks;
 #[cfg(test)]
+mod faults;
+#[cfg(test)]
 mod history;
 #[cfg(test)]
 mod rows;
