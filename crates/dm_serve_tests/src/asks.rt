@@ -1,13 +1,16 @@
 // Requests that several tests make, and contents of replies.
 
 /// Adds `http://h/a` under the word w1.
-pub(crate) const ADD_A: &[u8] = b"POST /items HTTP/1.1\r\nHost: a\r\nContent-Length: 32\r\n\r\n{\"url\":\"http://h/a\",\"word\":\"w1\"}";
+pub(crate) const ADD_A: &[u8] =
+    b"POST /items HTTP/1.1\r\nHost: a\r\nContent-Length: 32\r\n\r\n{\"url\":\"http://h/a\",\"word\":\"w1\"}";
 
 /// Adds `http://h/b` under the word w2.
-pub(crate) const ADD_B: &[u8] = b"POST /items HTTP/1.1\r\nHost: a\r\nContent-Length: 32\r\n\r\n{\"url\":\"http://h/b\",\"word\":\"w2\"}";
+pub(crate) const ADD_B: &[u8] =
+    b"POST /items HTTP/1.1\r\nHost: a\r\nContent-Length: 32\r\n\r\n{\"url\":\"http://h/b\",\"word\":\"w2\"}";
 
 /// Adds `http://h/b` under the word w1.
-pub(crate) const ADD_OTHER: &[u8] = b"POST /items HTTP/1.1\r\nHost: a\r\nContent-Length: 32\r\n\r\n{\"url\":\"http://h/b\",\"word\":\"w1\"}";
+pub(crate) const ADD_OTHER: &[u8] =
+    b"POST /items HTTP/1.1\r\nHost: a\r\nContent-Length: 32\r\n\r\n{\"url\":\"http://h/b\",\"word\":\"w1\"}";
 
 pub(crate) const LIST: &[u8] = b"GET /items HTTP/1.1\r\nHost: a\r\n\r\n";
 
@@ -34,40 +37,54 @@ pub(crate) const REPORT: &[u8] = b"GET /report HTTP/1.1\r\nHost: a\r\n\r\n";
 pub(crate) const STOP: &[u8] = b"POST /stop HTTP/1.1\r\nHost: a\r\n\r\n";
 
 /// The first item, as it waits.
-pub(crate) const A_WAITS: &str = "{\"address\":\"http://h/a\",\"autos\":0,\"covered\":0,\"id\":1,\"name\":null,\"phase\":\"waiting\",\"reason\":null,\"sha256\":null,\"total\":null,\"word\":\"w1\"}";
+pub(crate) const A_WAITS: &str =
+    "{\"address\":\"http://h/a\",\"autos\":0,\"covered\":0,\"id\":1,\"name\":null,\"phase\":\"waiting\",\"reason\":null,\"sha256\":null,\"total\":null,\"word\":\"w1\"}";
 
-pub(crate) const A_IS_PAUSED: &str = "{\"address\":\"http://h/a\",\"autos\":0,\"covered\":0,\"id\":1,\"name\":null,\"phase\":\"paused\",\"reason\":null,\"sha256\":null,\"total\":null,\"word\":\"w1\"}";
+pub(crate) const A_IS_PAUSED: &str =
+    "{\"address\":\"http://h/a\",\"autos\":0,\"covered\":0,\"id\":1,\"name\":null,\"phase\":\"paused\",\"reason\":null,\"sha256\":null,\"total\":null,\"word\":\"w1\"}";
 
-pub(crate) const A_IS_CANCELLED: &str = "{\"address\":\"http://h/a\",\"autos\":0,\"covered\":0,\"id\":1,\"name\":null,\"phase\":\"cancelled\",\"reason\":40,\"sha256\":null,\"total\":null,\"word\":\"w1\"}";
+pub(crate) const A_IS_CANCELLED: &str =
+    "{\"address\":\"http://h/a\",\"autos\":0,\"covered\":0,\"id\":1,\"name\":null,\"phase\":\"cancelled\",\"reason\":40,\"sha256\":null,\"total\":null,\"word\":\"w1\"}";
 
 /// The second one.
-pub(crate) const B_WAITS: &str = "{\"address\":\"http://h/b\",\"autos\":0,\"covered\":0,\"id\":2,\"name\":null,\"phase\":\"waiting\",\"reason\":null,\"sha256\":null,\"total\":null,\"word\":\"w2\"}";
+pub(crate) const B_WAITS: &str =
+    "{\"address\":\"http://h/b\",\"autos\":0,\"covered\":0,\"id\":2,\"name\":null,\"phase\":\"waiting\",\"reason\":null,\"sha256\":null,\"total\":null,\"word\":\"w2\"}";
 
-pub(crate) const B_IS_CANCELLED: &str = "{\"address\":\"http://h/b\",\"autos\":0,\"covered\":0,\"id\":2,\"name\":null,\"phase\":\"cancelled\",\"reason\":40,\"sha256\":null,\"total\":null,\"word\":\"w2\"}";
+pub(crate) const B_IS_CANCELLED: &str =
+    "{\"address\":\"http://h/b\",\"autos\":0,\"covered\":0,\"id\":2,\"name\":null,\"phase\":\"cancelled\",\"reason\":40,\"sha256\":null,\"total\":null,\"word\":\"w2\"}";
 
 /// Lists of items.
 pub(crate) const NO_ITEMS: &str = "{\"items\":[]}";
 
-pub(crate) const A_LISTED: &str = "{\"items\":[{\"address\":\"http://h/a\",\"autos\":0,\"covered\":0,\"id\":1,\"name\":null,\"phase\":\"waiting\",\"reason\":null,\"sha256\":null,\"total\":null,\"word\":\"w1\"}]}";
+pub(crate) const A_LISTED: &str =
+    "{\"items\":[{\"address\":\"http://h/a\",\"autos\":0,\"covered\":0,\"id\":1,\"name\":null,\"phase\":\"waiting\",\"reason\":null,\"sha256\":null,\"total\":null,\"word\":\"w1\"}]}";
 
-pub(crate) const PAUSED_A_LISTED: &str = "{\"items\":[{\"address\":\"http://h/a\",\"autos\":0,\"covered\":0,\"id\":1,\"name\":null,\"phase\":\"paused\",\"reason\":null,\"sha256\":null,\"total\":null,\"word\":\"w1\"}]}";
+pub(crate) const PAUSED_A_LISTED: &str =
+    "{\"items\":[{\"address\":\"http://h/a\",\"autos\":0,\"covered\":0,\"id\":1,\"name\":null,\"phase\":\"paused\",\"reason\":null,\"sha256\":null,\"total\":null,\"word\":\"w1\"}]}";
 
-pub(crate) const BOTH_LISTED: &str = "{\"items\":[{\"address\":\"http://h/a\",\"autos\":0,\"covered\":0,\"id\":1,\"name\":null,\"phase\":\"waiting\",\"reason\":null,\"sha256\":null,\"total\":null,\"word\":\"w1\"},{\"address\":\"http://h/b\",\"autos\":0,\"covered\":0,\"id\":2,\"name\":null,\"phase\":\"waiting\",\"reason\":null,\"sha256\":null,\"total\":null,\"word\":\"w2\"}]}";
+pub(crate) const BOTH_LISTED: &str =
+    "{\"items\":[{\"address\":\"http://h/a\",\"autos\":0,\"covered\":0,\"id\":1,\"name\":null,\"phase\":\"waiting\",\"reason\":null,\"sha256\":null,\"total\":null,\"word\":\"w1\"},{\"address\":\"http://h/b\",\"autos\":0,\"covered\":0,\"id\":2,\"name\":null,\"phase\":\"waiting\",\"reason\":null,\"sha256\":null,\"total\":null,\"word\":\"w2\"}]}";
 
-pub(crate) const BOTH_CANCELLED_LISTED: &str = "{\"items\":[{\"address\":\"http://h/a\",\"autos\":0,\"covered\":0,\"id\":1,\"name\":null,\"phase\":\"cancelled\",\"reason\":40,\"sha256\":null,\"total\":null,\"word\":\"w1\"},{\"address\":\"http://h/b\",\"autos\":0,\"covered\":0,\"id\":2,\"name\":null,\"phase\":\"cancelled\",\"reason\":40,\"sha256\":null,\"total\":null,\"word\":\"w2\"}]}";
+pub(crate) const BOTH_CANCELLED_LISTED: &str =
+    "{\"items\":[{\"address\":\"http://h/a\",\"autos\":0,\"covered\":0,\"id\":1,\"name\":null,\"phase\":\"cancelled\",\"reason\":40,\"sha256\":null,\"total\":null,\"word\":\"w1\"},{\"address\":\"http://h/b\",\"autos\":0,\"covered\":0,\"id\":2,\"name\":null,\"phase\":\"cancelled\",\"reason\":40,\"sha256\":null,\"total\":null,\"word\":\"w2\"}]}";
 
-pub(crate) const CANCELLED_B_LISTED: &str = "{\"items\":[{\"address\":\"http://h/b\",\"autos\":0,\"covered\":0,\"id\":2,\"name\":null,\"phase\":\"cancelled\",\"reason\":40,\"sha256\":null,\"total\":null,\"word\":\"w2\"}]}";
+pub(crate) const CANCELLED_B_LISTED: &str =
+    "{\"items\":[{\"address\":\"http://h/b\",\"autos\":0,\"covered\":0,\"id\":2,\"name\":null,\"phase\":\"cancelled\",\"reason\":40,\"sha256\":null,\"total\":null,\"word\":\"w2\"}]}";
 
 /// Rows of the history.
 pub(crate) const NO_ROWS: &str = "{\"rows\":[]}";
 
-pub(crate) const A_ROW: &str = "{\"address\":\"http://h/a\",\"at\":0,\"id\":1,\"name\":null,\"phase\":\"cancelled\",\"sha256\":null,\"total\":null,\"word\":\"w1\"}";
+pub(crate) const A_ROW: &str =
+    "{\"address\":\"http://h/a\",\"at\":0,\"id\":1,\"name\":null,\"phase\":\"cancelled\",\"sha256\":null,\"total\":null,\"word\":\"w1\"}";
 
-pub(crate) const A_IN_HISTORY: &str = "{\"rows\":[{\"address\":\"http://h/a\",\"at\":0,\"id\":1,\"name\":null,\"phase\":\"cancelled\",\"sha256\":null,\"total\":null,\"word\":\"w1\"}]}";
+pub(crate) const A_IN_HISTORY: &str =
+    "{\"rows\":[{\"address\":\"http://h/a\",\"at\":0,\"id\":1,\"name\":null,\"phase\":\"cancelled\",\"sha256\":null,\"total\":null,\"word\":\"w1\"}]}";
 
-pub(crate) const B_IN_HISTORY: &str = "{\"rows\":[{\"address\":\"http://h/b\",\"at\":0,\"id\":2,\"name\":null,\"phase\":\"cancelled\",\"sha256\":null,\"total\":null,\"word\":\"w2\"}]}";
+pub(crate) const B_IN_HISTORY: &str =
+    "{\"rows\":[{\"address\":\"http://h/b\",\"at\":0,\"id\":2,\"name\":null,\"phase\":\"cancelled\",\"sha256\":null,\"total\":null,\"word\":\"w2\"}]}";
 
-pub(crate) const BOTH_IN_HISTORY: &str = "{\"rows\":[{\"address\":\"http://h/a\",\"at\":0,\"id\":1,\"name\":null,\"phase\":\"cancelled\",\"sha256\":null,\"total\":null,\"word\":\"w1\"},{\"address\":\"http://h/b\",\"at\":0,\"id\":2,\"name\":null,\"phase\":\"cancelled\",\"sha256\":null,\"total\":null,\"word\":\"w2\"}]}";
+pub(crate) const BOTH_IN_HISTORY: &str =
+    "{\"rows\":[{\"address\":\"http://h/a\",\"at\":0,\"id\":1,\"name\":null,\"phase\":\"cancelled\",\"sha256\":null,\"total\":null,\"word\":\"w1\"},{\"address\":\"http://h/b\",\"at\":0,\"id\":2,\"name\":null,\"phase\":\"cancelled\",\"sha256\":null,\"total\":null,\"word\":\"w2\"}]}";
 
 /// Refusals.
 pub(crate) const NO_ITEM: &str = "{\"error\":\"item\"}";

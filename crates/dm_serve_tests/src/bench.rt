@@ -7,6 +7,7 @@ use dm_hist::Keeper;
 use dm_list::Ran;
 use dm_run_bench::{Left, stands, texts};
 use dm_serve::run_serve;
+use dm_session::{Session, run_session};
 use dm_types::{DiskKind, Listed, NoMemory, Text};
 use std::alloc::Global;
 
@@ -141,6 +142,27 @@ pub(crate) fn serve<K: Keeper>(
         requests,
     );
     (status, disk)
+}
+
+/// The same by a session that begins at this moment.
+pub(crate) fn hold<K: Keeper>(
+    alloc: Global,
+    outside: &mut Outside,
+    disk: MemoryDisk,
+    keeper: &mut K,
+    at: u64,
+    requests: u32,
+) -> Session<MemoryDisk> {
+    run_session(
+        alloc,
+        disk,
+        EveryByte,
+        &mut outside.conns,
+        keeper,
+        &mut outside.clock,
+        at,
+        requests,
+    )
 }
 
 /// Whether nothing is on standard output, and this on standard error.

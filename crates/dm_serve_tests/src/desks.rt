@@ -138,9 +138,13 @@ const REMOVE_3: &[u8] = b"DELETE /items/3 HTTP/1.1\r\nHost: a\r\n\r\n";
 
 const IS_RUNNING: &str = "{\"error\":\"phase\",\"phase\":\"running\"}";
 
-const IS_COMPLETE: Told = Told::Reply(Head::Conflict, "{\"error\":\"phase\",\"phase\":\"complete\"}");
+const IS_COMPLETE: Told = Told::Reply(
+    Head::Conflict,
+    "{\"error\":\"phase\",\"phase\":\"complete\"}",
+);
 
-const THIRD_RUNS: &str = "{\"address\":\"http://h/a\",\"autos\":0,\"covered\":0,\"id\":3,\"name\":null,\"phase\":\"running\",\"reason\":null,\"sha256\":null,\"total\":null,\"word\":\"w3\"}";
+const THIRD_RUNS: &str =
+    "{\"address\":\"http://h/a\",\"autos\":0,\"covered\":0,\"id\":3,\"name\":null,\"phase\":\"running\",\"reason\":null,\"sha256\":null,\"total\":null,\"word\":\"w3\"}";
 
 /// A running item isn't removed, and is shown and left.
 const RUNNING: &[Step] = &[
@@ -196,10 +200,7 @@ const PAUSED: &[Step] = &[
             "{\"address\":\"http://h/a\",\"autos\":0,\"covered\":0,\"id\":3,\"name\":null,\"phase\":\"waiting\",\"reason\":null,\"sha256\":null,\"total\":null,\"word\":\"w3\"}",
         ),
     )),
-    Step::Asks((
-        REMOVE_3,
-        Told::Reply(Head::Ok, "{\"removed\":3}"),
-    )),
+    Step::Asks((REMOVE_3, Told::Reply(Head::Ok, "{\"removed\":3}"))),
 ];
 
 /// The end of a session interrupts it.

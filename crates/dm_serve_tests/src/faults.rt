@@ -7,7 +7,7 @@ use crate::asks::{
     PAUSE_1, RESUME_1, STOP, STOPPING,
 };
 use crate::bench::{Outside, Run, Step, disk, make_outside, play, printed, serve};
-use crate::told::{Head, Told, Turn, conn, conns, first_other, is_reply, was_told, written};
+use crate::told::{Head, Told, Turn, conn, conns, first_other, was_told};
 use dm_conns::ConnsMem;
 use dm_disk::{MemoryDisk, Pick};
 use dm_hist::MemoryKeeper;
@@ -96,14 +96,16 @@ enum Went {
     Otherwise,
 }
 
-/// Whether these places of the connections show one of these.
+/// Whether the connections at these places were told the list and the history of one of these.
 fn shows(alloc: Global, conns: &ConnsMem, first: usize, next: usize, may: &[Shown]) -> bool {
-    match (written(conns, first), written(conns, next)) {
-        (Some(list), Some(rows)) => may.iter().any(|shown| {
-            is_reply(alloc, list, Head::Ok, shown.0) && is_reply(alloc, rows, Head::Ok, shown.1)
-        }),
-        _ => false,
+    for (list, rows) in may {
+        if was_told(alloc, conns, first, Told::Reply(Head::Ok, *list))
+            && was_told(alloc, conns, next, Told::Reply(Head::Ok, *rows))
+        {
+            return true;
+        }
     }
+    false
 }
 
 /// What is told of a change where so many were done and the next one failed. Where nothing is cancelled yet an archive
@@ -141,7 +143,13 @@ fn may_be(done: usize, whole: bool) -> &'static [Shown] {
 fn judge(alloc: Global, outside: &Outside, status: u8) -> Went {
     let conns = &outside.conns;
     let done = first_other(alloc, conns, &CHANGES).unwrap_or(CHANGES.len());
-    let is_shown = shows(alloc, conns, CHANGES.len(), CHANGES.len() + 1, may_be(done, false));
+    let is_shown = shows(
+        alloc,
+        conns,
+        CHANGES.len(),
+        CHANGES.len() + 1,
+        may_be(done, false),
+    );
     if conns.served() == 0 {
         let is_told = printed(outside, b"disk denied\n") || printed(outside, b"disk failed\n");
         if status == 6 && is_told {
@@ -216,13 +224,11 @@ fn after_stop(alloc: Global, calls: u64) -> Result<Went, NoMemory> {
 fn after_fault(alloc: Global, call: u64) -> Result<Went, NoMemory> {
     let mut keeper = MemoryKeeper::new(alloc, &[])?;
     let (went, left) = session(alloc, disk(alloc, Some(call), None)?, &mut keeper)?;
-    Ok(
-        if is_found(alloc, left, &mut keeper, may_behind(went))? {
-            went
-        } else {
-            Went::Otherwise
-        },
-    )
+    Ok(if is_found(alloc, left, &mut keeper, may_behind(went))? {
+        went
+    } else {
+        Went::Otherwise
+    })
 }
 
 /// More calls of the disk than a session makes.

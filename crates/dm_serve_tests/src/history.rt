@@ -1,5 +1,5 @@
 // What is asked of the history, also where its calls fail.
-ghost use Rattle.std.specs.Prelude.{◌≡◌, []};
+ghost use Rattle.std.specs.Prelude.{[]};
 ghost use Rattle.dm_hist.specs.Faults.{keeper_count};
 
 use crate::asks::{

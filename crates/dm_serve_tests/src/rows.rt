@@ -4,10 +4,11 @@ use crate::asks::{
     CANCEL_1, LIST, NO_ITEM, NO_ITEMS, PAUSE_1, PAUSED_A_LISTED, REMOVE_1, REMOVE_2, REPORT,
     RESUME_1, SHOW_1, STOP, STOPPING,
 };
-use crate::bench::{Run, Step, disk, play};
-use crate::told::{Head, Told, Turn};
+use crate::bench::{Run, Step, disk, hold, make_outside, play};
+use crate::told::{Head, Told, Turn, conns, first_other};
 use dm_hist::MemoryKeeper;
-use dm_run_bench::Left;
+use dm_run_bench::{Left, stands};
+use dm_session::Session;
 use std::test::Fail;
 
 /// The journal with the first item: a Reopened and an Added.
@@ -18,8 +19,8 @@ pub(crate) const A_ALONE: &[u8] =
 const A_PAUSED: &[u8] =
     b"DMJRNL1\n\x01\0\0\0\x0d\x0d\0\0\0\x01\0\0\0\0\0\0\0\0\x01\0\0\0\x20\x01\0\0\0\x01\0\x02w1\0\x0ahttp://h/a\0\0\0\0\0\0\0\0\0\0\0\x01\0\0\0\x20\x01\0\0\0\x02\0\x02w2\0\x0ahttp://h/b\0\0\0\0\0\0\0\0\0\0\0\x01\0\0\0\x05\x06\0\0\0\x01\x01\0\0\0\x05\x0b\0\0\0\x02\0";
 
-/// One item at two moments' clock: it is added at 2000, the next connection, which is cut, takes a moment too, and the other
-/// item is added at 4000. Then the first one is cancelled, and moves to the history.
+/// The list is opened at 1000 and the first item added at 2000. The next connection, which is cut, takes a moment too, and
+/// the second item is added at 4000. Then the first one is cancelled, and moves to the history.
 const AT_MOMENTS: &[u8] =
     b"DMJRNL1\n\x01\0\0\0\x0d\x0d\0\0\0\x01\0\0\0\0\0\0\x03\xe8\x01\0\0\0\x20\x01\0\0\0\x01\0\x02w1\0\x0ahttp://h/a\0\0\0\0\0\0\0\0\0\x07\xd0\x01\0\0\0\x20\x01\0\0\0\x02\0\x02w2\0\x0ahttp://h/b\0\0\0\0\0\0\0\0\0\x0f\xa0\x01\0\0\0\x05\x07\0\0\0\x01\x01\0\0\0\x05\x0c\0\0\0\x01\0";
 
@@ -87,7 +88,10 @@ const IN_TURN: &[Turn] = &[
     (ADD_A, Told::Reply(Head::Ok, A_IS_CANCELLED)),
     (
         RESUME_1,
-        Told::Reply(Head::Conflict, "{\"error\":\"phase\",\"phase\":\"cancelled\"}"),
+        Told::Reply(
+            Head::Conflict,
+            "{\"error\":\"phase\",\"phase\":\"cancelled\"}",
+        ),
     ),
     (REMOVE_1, Told::Reply(Head::Ok, "{\"removed\":1}")),
     (REMOVE_1, Told::Reply(Head::NotFound, NO_ITEM)),
@@ -258,6 +262,23 @@ fn requests_are_answered_in_turn(rt: HostRuntime) -> Result<(), Fail> {
         let other = play(rt.alloc(), disk, &mut keeper, steps);
         assert_eq!(rt; other, None, "in {number}");
     }
+    Ok(())
+}
+
+#[test]
+fn a_session_takes_a_moment_for_each_connection(rt: HostRuntime) -> Result<(), Fail> {
+    let alloc = rt.alloc();
+    let run = Run {
+        moments: [2000, 3000, 4000, 5000, 6000, 7000, 8000, 9000],
+        ..SERVE
+    };
+    let mut keeper = MemoryKeeper::new(alloc, &[])?;
+    let mut outside = make_outside(alloc, &run, conns(alloc, MOMENTS)?)?;
+    let empty = disk(alloc, None, None)?;
+    let Session { ending, mut disk } = hold(alloc, &mut outside, empty, &mut keeper, 1000, 6);
+    assert_eq!(rt; (ending.status(), ending.errs_text()), (0, b"".as_slice()));
+    assert_eq!(rt; first_other(alloc, &outside.conns, MOMENTS), None);
+    assert!(rt; stands(alloc, &mut disk, Left::Journal(AT_MOMENTS)));
     Ok(())
 }
 

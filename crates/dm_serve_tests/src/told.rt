@@ -125,18 +125,10 @@ pub(crate) fn conns(alloc: Global, turns: &[Turn]) -> Result<ConnMems, NoMemory>
     Ok(list)
 }
 
-/// What was written to the connection at a place, where it was handed back.
-pub(crate) fn written(conns: &ConnsMem, place: usize) -> Option<&[u8]> {
-    match conns.over(place as u64) {
-        Some(over) => Some(over.written.as_slice()),
-        None => None,
-    }
-}
-
 /// Whether the connection at a place was handed back, and this is written to it.
 pub(crate) fn was_told(alloc: Global, conns: &ConnsMem, place: usize, told: Told) -> bool {
-    match written(conns, place) {
-        Some(bytes) => is_told(alloc, bytes, told),
+    match conns.over(place as u64) {
+        Some(over) => is_told(alloc, over.written.as_slice(), told),
         None => false,
     }
 }
