@@ -69,18 +69,20 @@ const ALL: Shown = (
     BOTH_IN_HISTORY,
 );
 
-/// What may be shown where so many changes were told as done, by the number of these: what they left, and what the next
-/// one may have done.
-const MAY: [&[Shown]; 9] = [
-    &[NONE, A_WAITING],
-    &[A_WAITING, BOTH_WAITING],
-    &[BOTH_WAITING, A_PAUSED],
-    &[A_PAUSED, BOTH_WAITING],
-    &[BOTH_WAITING, A_CANCELLED],
-    &[A_CANCELLED, BOTH_CANCELLED],
-    &[BOTH_CANCELLED, A_MOVED, BOTH_MOVED],
-    &[BOTH_MOVED, ALL],
-    &[ALL],
+/// What changes that were told as done left, and what the next one may have made of it.
+type May = (&'static [Shown], Shown);
+
+/// What may be shown, by how many changes were told as done.
+const MAY: [May; 9] = [
+    (&[NONE], A_WAITING),
+    (&[A_WAITING], BOTH_WAITING),
+    (&[BOTH_WAITING], A_PAUSED),
+    (&[A_PAUSED], BOTH_WAITING),
+    (&[BOTH_WAITING], A_CANCELLED),
+    (&[A_CANCELLED], BOTH_CANCELLED),
+    (&[BOTH_CANCELLED, A_MOVED], BOTH_MOVED),
+    (&[BOTH_MOVED], ALL),
+    (&[ALL], ALL),
 ];
 
 /// How a session went.
@@ -130,12 +132,11 @@ fn are_refused(alloc: Global, conns: &ConnsMem, done: usize) -> bool {
     true
 }
 
-/// What may be shown behind so many changes, with what the next one may have done, or without.
-fn may_be(done: usize, whole: bool) -> &'static [Shown] {
+/// Whether the session shows what so many changes left. An archive that failed may have moved the first item.
+fn shows_left(alloc: Global, conns: &ConnsMem, done: usize) -> bool {
     match MAY.get(done) {
-        Some([most @ .., _]) if !whole && !most.is_empty() => most,
-        Some(all) => all,
-        None => &[],
+        Some((left, _)) => shows(alloc, conns, CHANGES.len(), CHANGES.len() + 1, *left),
+        None => false,
     }
 }
 
@@ -143,13 +144,7 @@ fn may_be(done: usize, whole: bool) -> &'static [Shown] {
 fn judge(alloc: Global, outside: &Outside, status: u8) -> Went {
     let conns = &outside.conns;
     let done = first_other(alloc, conns, &CHANGES).unwrap_or(CHANGES.len());
-    let is_shown = shows(
-        alloc,
-        conns,
-        CHANGES.len(),
-        CHANGES.len() + 1,
-        may_be(done, false),
-    );
+    let is_shown = shows_left(alloc, conns, done);
     if conns.served() == 0 {
         let is_told = printed(outside, b"disk denied\n") || printed(outside, b"disk failed\n");
         if status == 6 && is_told {
@@ -183,36 +178,47 @@ fn session(
     Ok((judge(alloc, &outside, status), disk))
 }
 
-/// Whether the next run shows one of these, each item and each row once.
+/// What may be found behind a session that went so.
+fn may_behind(went: Went) -> Option<May> {
+    match went {
+        Went::NotOpened => Some((&[NONE], NONE)),
+        Went::Done(done) => match MAY.get(done) {
+            Some(may) => Some(*may),
+            None => None,
+        },
+        Went::Sound => Some((&[ALL], ALL)),
+        Went::Otherwise => None,
+    }
+}
+
+fn shows_may(alloc: Global, conns: &ConnsMem, may: Option<May>) -> bool {
+    match may {
+        Some((left, next)) => {
+            shows(alloc, conns, 0, 1, left) || shows(alloc, conns, 0, 1, &[next])
+        }
+        None => false,
+    }
+}
+
+/// Whether the next run shows what may be found behind a session that went so, each item and each row once.
 fn is_found(
     alloc: Global,
     disk: MemoryDisk,
     keeper: &mut MemoryKeeper,
-    may: &[Shown],
+    went: Went,
 ) -> Result<bool, NoMemory> {
     let coming = conns(alloc, &LOOKS)?;
     let mut outside = make_outside(alloc, &Run::SERVE, coming)?;
     let (status, _) = serve(alloc, &mut outside, disk, keeper, 2);
-    Ok(status == 0 && shows(alloc, &outside.conns, 0, 1, may))
-}
-
-/// What may be found behind a session that went so.
-fn may_behind(went: Went) -> &'static [Shown] {
-    match went {
-        Went::NotOpened => &[NONE],
-        Went::Done(done) => may_be(done, true),
-        Went::Sound => &[ALL],
-        Went::Otherwise => &[],
-    }
+    Ok(status == 0 && shows_may(alloc, &outside.conns, may_behind(went)))
 }
 
 /// A session over a disk that stops after so many calls: how it went, where both images have what was told as done.
 fn after_stop(alloc: Global, calls: u64) -> Result<Went, NoMemory> {
     let mut keeper = MemoryKeeper::new(alloc, &[])?;
     let (went, left) = session(alloc, disk(alloc, None, Some(calls))?, &mut keeper)?;
-    let may = may_behind(went);
-    let least = is_found(alloc, left.image(alloc, Pick::Least)?, &mut keeper, may)?;
-    let present = is_found(alloc, left.image(alloc, Pick::Present)?, &mut keeper, may)?;
+    let least = is_found(alloc, left.image(alloc, Pick::Least)?, &mut keeper, went)?;
+    let present = is_found(alloc, left.image(alloc, Pick::Present)?, &mut keeper, went)?;
     Ok(if least && present {
         went
     } else {
@@ -224,7 +230,7 @@ fn after_stop(alloc: Global, calls: u64) -> Result<Went, NoMemory> {
 fn after_fault(alloc: Global, call: u64) -> Result<Went, NoMemory> {
     let mut keeper = MemoryKeeper::new(alloc, &[])?;
     let (went, left) = session(alloc, disk(alloc, Some(call), None)?, &mut keeper)?;
-    Ok(if is_found(alloc, left, &mut keeper, may_behind(went))? {
+    Ok(if is_found(alloc, left, &mut keeper, went)? {
         went
     } else {
         Went::Otherwise
