@@ -3,7 +3,7 @@ use crate::told::{Turn, conn, conns, first_other};
 use dm_conns::{ConnMems, ConnsMem};
 use dm_disk::{FailingCall, MemoryDisk};
 use dm_edge::{ClockList, EveryByte, SinkMem};
-use dm_hist::Keeper;
+use dm_hist::{Keeper, MemoryKeeper};
 use dm_list::Ran;
 use dm_run_bench::{Left, stands, texts};
 use dm_serve::run_serve;
@@ -263,4 +263,30 @@ pub(crate) fn disk(
         })?;
     }
     MemoryDisk::new(alloc, calls, stop_after)
+}
+
+/// An empty disk of which this call is denied, and a history of which these calls fail.
+pub(crate) fn tools(
+    alloc: Global,
+    denied: Option<u64>,
+    failing: &[u64],
+) -> Result<(MemoryDisk, MemoryKeeper), NoMemory> {
+    let keeper = MemoryKeeper::new(alloc, failing)?;
+    match disk(alloc, denied, None) {
+        Ok(disk) => Ok((disk, keeper)),
+        Err(NoMemory) => Err(NoMemory),
+    }
+}
+
+/// How steps go over these: the first that goes otherwise.
+pub(crate) fn played(
+    alloc: Global,
+    denied: Option<u64>,
+    failing: &[u64],
+    steps: &[Step],
+) -> Option<(usize, Went)> {
+    match tools(alloc, denied, failing) {
+        Ok((disk, mut keeper)) => play(alloc, disk, &mut keeper, steps),
+        Err(NoMemory) => Some((usize::MAX, Went::Otherwise)),
+    }
 }

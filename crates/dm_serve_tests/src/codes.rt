@@ -1,11 +1,9 @@
 // Each refusal by one request through the whole service, behind which nothing has changed.
 use crate::asks::{A_LISTED, A_WAITS, ADD_A, LIST, NO_ITEM};
-use crate::bench::{Run, Step, disk, play};
+use crate::bench::{Run, Step, played};
 use crate::rows::A_ALONE;
 use crate::told::{Head, Told, Turn};
-use dm_hist::MemoryKeeper;
 use dm_run_bench::Left;
-use std::test::Fail;
 
 const PATH: Told = Told::Reply(Head::NotFound, "{\"error\":\"path\"}");
 
@@ -109,9 +107,8 @@ const CONTENTS: &[Turn] = &[
 ];
 
 #[test]
-fn each_refusal_is_told(rt: HostRuntime) -> Result<(), Fail> {
+fn each_refusal_is_told(rt: HostRuntime) {
     for turns in [TARGETS, CONTENTS] {
-        let mut keeper = MemoryKeeper::new(rt.alloc(), &[])?;
         let steps = [
             Step::Serves(Run {
                 turns,
@@ -119,8 +116,6 @@ fn each_refusal_is_told(rt: HostRuntime) -> Result<(), Fail> {
             }),
             Step::Left(Left::Journal(A_ALONE)),
         ];
-        let disk = disk(rt.alloc(), None, None)?;
-        assert_eq!(rt; play(rt.alloc(), disk, &mut keeper, &steps), None);
+        assert_eq!(rt; played(rt.alloc(), None, &[], &steps), None);
     }
-    Ok(())
 }

@@ -1,13 +1,12 @@
 // Requests that are cut after each byte, and connections of which a call fails.
 use crate::asks::{A_LISTED, A_WAITS, ADD_A, LIST, NO_ITEMS};
-use crate::bench::{Run, Step, disk, make_outside, play, serve};
+use crate::bench::{Outside, Run, Step, Went, make_outside, play, serve, tools};
 use crate::told::{Head, Told, Turn, conn, was_told};
 use dm_conns::{ConnMem, ConnMems, ConnsMem};
 use dm_disk::MemoryDisk;
 use dm_hist::MemoryKeeper;
 use dm_types::{Listed, NoMemory};
 use std::alloc::Global;
-use std::test::Fail;
 
 /// A request that no route has.
 const PUT: &[u8] =
@@ -49,20 +48,6 @@ fn first_answered(alloc: Global, conns: &ConnsMem) -> Option<usize> {
     None
 }
 
-/// Serves all fronts: whether each connection was served, the first that was answered otherwise, and the disk.
-fn serve_fronts(
-    alloc: Global,
-    disk: MemoryDisk,
-    keeper: &mut MemoryKeeper,
-) -> Result<(bool, Option<usize>, MemoryDisk), NoMemory> {
-    let coming = fronts(alloc)?;
-    let count = coming.count();
-    let mut outside = make_outside(alloc, &Run::SERVE, coming)?;
-    let (_, disk) = serve(alloc, &mut outside, disk, keeper, u32::MAX);
-    let answered = first_answered(alloc, &outside.conns);
-    Ok((outside.conns.served() == count, answered, disk))
-}
-
 /// Whole ones, and ones whose connection fails: what isn't read isn't done, and what isn't told is.
 const STEPS: &[Step] = &[Step::Serves(Run {
     turns: &[
@@ -82,12 +67,47 @@ const STEPS: &[Step] = &[Step::Serves(Run {
     ..Run::SERVE
 })];
 
+/// Serves all fronts, and then the steps: how many weren't served, the first that was answered otherwise, and the first
+/// step that went so.
+fn serve_fronts(
+    alloc: Global,
+    outside: &mut Outside,
+    disk: MemoryDisk,
+    keeper: &mut MemoryKeeper,
+    count: u32,
+) -> (u64, Option<usize>, Option<(usize, Went)>) {
+    let (_, disk) = serve(alloc, outside, disk, keeper, count);
+    let left = u64::from(count).saturating_sub(outside.conns.served());
+    let answered = first_answered(alloc, &outside.conns);
+    (left, answered, play(alloc, disk, keeper, STEPS))
+}
+
+fn outside_of_fronts(alloc: Global) -> Result<(Outside, u32), NoMemory> {
+    let coming = fronts(alloc)?;
+    let count = coming.count().min(1000) as u32;
+    match make_outside(alloc, &Run::SERVE, coming) {
+        Ok(outside) => Ok((outside, count)),
+        Err(NoMemory) => Err(NoMemory),
+    }
+}
+
+fn serve_all(alloc: Global) -> Option<(u64, Option<usize>, Option<(usize, Went)>)> {
+    match tools(alloc, None, &[]) {
+        Ok((disk, mut keeper)) => match outside_of_fronts(alloc) {
+            Ok((mut outside, count)) => Some(serve_fronts(
+                alloc,
+                &mut outside,
+                disk,
+                &mut keeper,
+                count,
+            )),
+            Err(NoMemory) => None,
+        },
+        Err(NoMemory) => None,
+    }
+}
+
 #[test]
-fn what_is_cut_changes_nothing(rt: HostRuntime) -> Result<(), Fail> {
-    let mut keeper = MemoryKeeper::new(rt.alloc(), &[])?;
-    let disk = disk(rt.alloc(), None, None)?;
-    let (is_served, answered, disk) = serve_fronts(rt.alloc(), disk, &mut keeper)?;
-    assert_eq!(rt; (is_served, answered), (true, None));
-    assert_eq!(rt; play(rt.alloc(), disk, &mut keeper, STEPS), None);
-    Ok(())
+fn what_is_cut_changes_nothing(rt: HostRuntime) {
+    assert_eq!(rt; serve_all(rt.alloc()), Some((0, None, None)));
 }

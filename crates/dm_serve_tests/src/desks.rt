@@ -3,17 +3,16 @@ use crate::asks::{
     ARCHIVE, CANCEL_1, CANCEL_2, HISTORY, LIST, NO_ITEM, NO_ROWS, PAUSE_1, REMOVE_1, REMOVE_2,
     REPORT, RESUME_1, STOP, STOPPING,
 };
-use crate::bench::{Run, play};
+use crate::bench::{Run, Went, play};
 use crate::told::{Head, Told, Turn, conn, is_reply, is_told};
 use dm_api::{ApiReply, ApiRequest, MethodKind, Served};
 use dm_hist::MemoryKeeper;
-use dm_items::{Begun, Finished, Named, Pass, Taken};
+use dm_items::{Begun, DeskFault, Finished, Named, Pass, Taken};
 use dm_items_bench::{Call, FIRST, MemoryDesk, OTHER, OTHER_PART, PART, Said, make, waiting};
 use dm_run_bench::Left;
 use dm_types::{Attempt, By, Epoch, ItemId, NoMemory, Phase, Reason, Text};
 use dm_works::{answer, serve_one};
 use std::alloc::Global;
-use std::test::Fail;
 
 /// What is done at a desk next. Requests come at moment 7.
 #[derive(Clone, Copy)]
@@ -22,6 +21,8 @@ enum Step {
     Calls(Call, Said),
     /// A connection is served.
     Asks(Turn),
+    /// Items are added up to as many as a list takes.
+    Fills,
     /// A request without a content is answered.
     Answers(MethodKind, &'static [u8], Head, &'static str),
 }
@@ -76,10 +77,19 @@ fn answers(
     }
 }
 
+/// Adds items, and tells whether one more isn't taken.
+fn fill(alloc: Global, desk: &mut MemoryDesk) -> bool {
+    for _ in 1..4096 {
+        let _ = make(alloc, desk, Call::Add(b""));
+    }
+    make(alloc, desk, Call::Add(b"")) == Said::No(DeskFault::ItemsFull(4096))
+}
+
 fn go(alloc: Global, desk: &mut MemoryDesk, keeper: &mut MemoryKeeper, step: &Step) -> bool {
     match step {
         Step::Calls(call, said) => make(alloc, desk, *call) == *said,
         Step::Asks(turn) => ask(alloc, desk, keeper, turn),
+        Step::Fills => fill(alloc, desk),
         Step::Answers(method, path, head, content) => match request(alloc, *method, path) {
             Ok(request) => answers(alloc, desk, keeper, &request, *head, content),
             Err(NoMemory) => false,
@@ -253,50 +263,6 @@ const FOUND: &[crate::bench::Step] = &[
     crate::bench::Step::Left(Left::File(b"hello.txt", b"hello world")),
 ];
 
-/// How many steps of each group go as they are to, from a desk with item 1 on.
-fn first_other_of(
-    alloc: Global,
-    desk: &mut MemoryDesk,
-    keeper: &mut MemoryKeeper,
-    groups: &[&[Step]],
-) -> Option<(usize, usize)> {
-    for (group, steps) in groups.iter().enumerate() {
-        if let Some(place) = first_other(alloc, desk, keeper, steps) {
-            return Some((group, place));
-        }
-    }
-    None
-}
-
-#[test]
-fn a_running_item_is_shown_and_left(rt: HostRuntime) -> Result<(), Fail> {
-    let mut keeper = MemoryKeeper::new(rt.alloc(), &[])?;
-    let mut desk = waiting(rt.alloc()).expect(&rt, "a desk");
-    let other = first_other_of(rt.alloc(), &mut desk, &mut keeper, &[BEGUN, RUNNING]);
-    assert_eq!(rt; other, None);
-    let disk = desk.into_disk();
-    assert_eq!(rt; play(rt.alloc(), disk, &mut keeper, FOUND), None);
-    Ok(())
-}
-
-#[test]
-fn a_running_item_is_paused_or_interrupted(rt: HostRuntime) -> Result<(), Fail> {
-    for last in [PAUSED, SHUT] {
-        let mut keeper = MemoryKeeper::new(rt.alloc(), &[])?;
-        let mut desk = waiting(rt.alloc()).expect(&rt, "a desk");
-        let other = first_other_of(rt.alloc(), &mut desk, &mut keeper, &[BEGUN, last]);
-        assert_eq!(rt; other, None);
-    }
-    Ok(())
-}
-
-/// Adds items up to as many as a list takes.
-fn fill(alloc: Global, desk: &mut MemoryDesk) {
-    for _ in 1..4096 {
-        let _ = make(alloc, desk, Call::Add(b""));
-    }
-}
-
 /// A full list takes no more, and its next item has a number that none had.
 const FULL: &[Step] = &[
     Step::Asks((
@@ -313,11 +279,74 @@ const FULL: &[Step] = &[
     )),
 ];
 
+/// How steps at a desk went, and those of the next runs.
+#[derive(Clone, Copy, Debug, PartialEq, Eq)]
+enum Played {
+    AsSaid,
+    NotMade,
+    /// The first step that went otherwise.
+    Other(usize),
+    /// The first one of the next runs.
+    Later(usize, Went),
+}
+
+/// Both groups of steps at a desk, and then the steps on its disk.
+fn play_all(
+    alloc: Global,
+    desk: MemoryDesk,
+    keeper: &mut MemoryKeeper,
+    groups: (&[Step], &[Step]),
+    later: &[crate::bench::Step],
+) -> Played {
+    let mut desk = desk;
+    let first = first_other(alloc, &mut desk, keeper, groups.0);
+    let next = first_other(alloc, &mut desk, keeper, groups.1);
+    let behind = play(alloc, desk.into_disk(), keeper, later);
+    match (first, next, behind) {
+        (Some(place), _, _) => Played::Other(place),
+        (None, Some(place), _) => Played::Other(place),
+        (None, None, Some((place, went))) => Played::Later(place, went),
+        (None, None, None) => Played::AsSaid,
+    }
+}
+
+/// The same from a desk with item 1 on.
+fn play_from_one(
+    alloc: Global,
+    groups: (&[Step], &[Step]),
+    later: &[crate::bench::Step],
+) -> Played {
+    match MemoryKeeper::new(alloc, &[]) {
+        Ok(mut keeper) => match waiting(alloc) {
+            Some(desk) => play_all(alloc, desk, &mut keeper, groups, later),
+            None => Played::NotMade,
+        },
+        Err(NoMemory) => Played::NotMade,
+    }
+}
+
 #[test]
-fn a_full_list_takes_no_more(rt: HostRuntime) -> Result<(), Fail> {
-    let mut keeper = MemoryKeeper::new(rt.alloc(), &[])?;
-    let mut desk = waiting(rt.alloc()).expect(&rt, "a desk");
-    fill(rt.alloc(), &mut desk);
-    assert_eq!(rt; first_other(rt.alloc(), &mut desk, &mut keeper, FULL), None);
-    Ok(())
+fn a_running_item_is_shown_and_left(rt: HostRuntime) {
+    assert_eq!(rt;
+        play_from_one(rt.alloc(), (BEGUN, RUNNING), FOUND),
+        Played::AsSaid
+    );
+}
+
+#[test]
+fn a_running_item_is_paused_or_interrupted(rt: HostRuntime) {
+    for last in [PAUSED, SHUT] {
+        assert_eq!(rt;
+            play_from_one(rt.alloc(), (BEGUN, last), &[]),
+            Played::AsSaid
+        );
+    }
+}
+
+#[test]
+fn a_full_list_takes_no_more(rt: HostRuntime) {
+    assert_eq!(rt;
+        play_from_one(rt.alloc(), (&[Step::Fills], FULL), &[]),
+        Played::AsSaid
+    );
 }

@@ -6,14 +6,13 @@ use crate::asks::{
     CANCEL_2, CANCELLED_B_LISTED, DISK_FAILED, HISTORY, IS_BROKEN, LIST, NO_ITEMS, NO_ROWS,
     PAUSE_1, RESUME_1, STOP, STOPPING,
 };
-use crate::bench::{Outside, Run, Step, disk, make_outside, play, printed, serve};
+use crate::bench::{Outside, Run, Step, disk, make_outside, played, printed, serve, tools};
 use crate::told::{Head, Told, Turn, conn, conns, first_other, was_told};
 use dm_conns::ConnsMem;
 use dm_disk::{MemoryDisk, Pick};
 use dm_hist::MemoryKeeper;
 use dm_types::NoMemory;
 use std::alloc::Global;
-use std::test::Fail;
 
 /// Changes, each of which makes at least one call of the disk.
 const CHANGES: [Turn; 8] = [
@@ -163,19 +162,29 @@ fn judge(alloc: Global, outside: &Outside, status: u8) -> Went {
     }
 }
 
-/// A session of all the changes, behind which the list and the history are looked at.
-fn session(
-    alloc: Global,
-    disk: MemoryDisk,
-    keeper: &mut MemoryKeeper,
-) -> Result<(Went, MemoryDisk), NoMemory> {
+/// All the changes, behind which the list and the history are looked at.
+fn outside_of_changes(alloc: Global) -> Result<Outside, NoMemory> {
     let mut coming = conns(alloc, &CHANGES)?;
     for turn in &LOOKS {
         coming.push(conn(alloc, turn)?)?;
     }
-    let mut outside = make_outside(alloc, &Run::SERVE, coming)?;
-    let (status, disk) = serve(alloc, &mut outside, disk, keeper, 10);
-    Ok((judge(alloc, &outside, status), disk))
+    make_outside(alloc, &Run::SERVE, coming)
+}
+
+fn outside_of_looks(alloc: Global) -> Result<Outside, NoMemory> {
+    let coming = conns(alloc, &LOOKS)?;
+    make_outside(alloc, &Run::SERVE, coming)
+}
+
+/// A session of all the changes, and the disk.
+fn session(alloc: Global, disk: MemoryDisk, keeper: &mut MemoryKeeper) -> (Went, MemoryDisk) {
+    match outside_of_changes(alloc) {
+        Ok(mut outside) => {
+            let (status, disk) = serve(alloc, &mut outside, disk, keeper, 10);
+            (judge(alloc, &outside, status), disk)
+        }
+        Err(NoMemory) => (Went::Otherwise, disk),
+    }
 }
 
 /// What may be found behind a session that went so.
@@ -201,76 +210,101 @@ fn shows_may(alloc: Global, conns: &ConnsMem, may: Option<May>) -> bool {
 }
 
 /// Whether the next run shows what may be found behind a session that went so, each item and each row once.
-fn is_found(
+fn is_found(alloc: Global, disk: MemoryDisk, keeper: &mut MemoryKeeper, went: Went) -> bool {
+    match outside_of_looks(alloc) {
+        Ok(mut outside) => {
+            let (status, _) = serve(alloc, &mut outside, disk, keeper, 2);
+            status == 0 && shows_may(alloc, &outside.conns, may_behind(went))
+        }
+        Err(NoMemory) => false,
+    }
+}
+
+fn is_found_on(
     alloc: Global,
-    disk: MemoryDisk,
+    left: &MemoryDisk,
+    pick: Pick,
     keeper: &mut MemoryKeeper,
     went: Went,
-) -> Result<bool, NoMemory> {
-    let coming = conns(alloc, &LOOKS)?;
-    let mut outside = make_outside(alloc, &Run::SERVE, coming)?;
-    let (status, _) = serve(alloc, &mut outside, disk, keeper, 2);
-    Ok(status == 0 && shows_may(alloc, &outside.conns, may_behind(went)))
+) -> bool {
+    match left.image(alloc, pick) {
+        Ok(image) => is_found(alloc, image, keeper, went),
+        Err(NoMemory) => false,
+    }
 }
 
-/// A session over a disk that stops after so many calls: how it went, where both images have what was told as done.
-fn after_stop(alloc: Global, calls: u64) -> Result<Went, NoMemory> {
-    let mut keeper = MemoryKeeper::new(alloc, &[])?;
-    let (went, left) = session(alloc, disk(alloc, None, Some(calls))?, &mut keeper)?;
-    let least = is_found(alloc, left.image(alloc, Pick::Least)?, &mut keeper, went)?;
-    let present = is_found(alloc, left.image(alloc, Pick::Present)?, &mut keeper, went)?;
-    Ok(if least && present {
+/// A session over a disk that stops: how it went, where both images have what was told as done.
+fn by_images(alloc: Global, disk: MemoryDisk, keeper: &mut MemoryKeeper) -> Went {
+    let (went, left) = session(alloc, disk, keeper);
+    let least = is_found_on(alloc, &left, Pick::Least, keeper, went);
+    let present = is_found_on(alloc, &left, Pick::Present, keeper, went);
+    if least && present {
         went
     } else {
         Went::Otherwise
-    })
+    }
 }
 
-/// The same over a disk of which this call is denied, where the next run has what was told as done.
-fn after_fault(alloc: Global, call: u64) -> Result<Went, NoMemory> {
-    let mut keeper = MemoryKeeper::new(alloc, &[])?;
-    let (went, left) = session(alloc, disk(alloc, Some(call), None)?, &mut keeper)?;
-    Ok(if is_found(alloc, left, &mut keeper, went)? {
+/// The same over a disk of which a call is denied, where the next run has what was told as done.
+fn by_next_run(alloc: Global, disk: MemoryDisk, keeper: &mut MemoryKeeper) -> Went {
+    let (went, left) = session(alloc, disk, keeper);
+    if is_found(alloc, left, keeper, went) {
         went
     } else {
         Went::Otherwise
-    })
+    }
+}
+
+fn after_stop(alloc: Global, calls: u64) -> Went {
+    match (
+        disk(alloc, None, Some(calls)),
+        MemoryKeeper::new(alloc, &[]),
+    ) {
+        (Ok(disk), Ok(mut keeper)) => by_images(alloc, disk, &mut keeper),
+        _ => Went::Otherwise,
+    }
+}
+
+fn after_fault(alloc: Global, call: u64) -> Went {
+    match tools(alloc, Some(call), &[]) {
+        Ok((disk, mut keeper)) => by_next_run(alloc, disk, &mut keeper),
+        Err(NoMemory) => Went::Otherwise,
+    }
 }
 
 /// More calls of the disk than a session makes.
 const MANY: u64 = 200;
 
 /// Stops after each call: how many calls a whole session makes, and how the last one went that wasn't whole.
-fn stops(alloc: Global) -> Result<(u64, Went), NoMemory> {
+fn stops(alloc: Global) -> (u64, Went) {
     let mut last = Went::Sound;
     for calls in 0..MANY {
-        match after_stop(alloc, calls)? {
-            Went::Sound => return Ok((calls, last)),
-            Went::Otherwise => return Ok((calls, Went::Otherwise)),
+        match after_stop(alloc, calls) {
+            Went::Sound => return (calls, last),
+            Went::Otherwise => return (calls, Went::Otherwise),
             went => last = went,
         }
     }
-    Ok((MANY, Went::Otherwise))
+    (MANY, Went::Otherwise)
 }
 
 /// The first of so many calls whose denial goes otherwise, and how the last one went.
-fn faults(alloc: Global, calls: u64) -> Result<(Option<u64>, Went), NoMemory> {
+fn faults(alloc: Global, calls: u64) -> (Option<u64>, Went) {
     let mut last = Went::Sound;
     for call in 0..calls {
-        last = after_fault(alloc, call)?;
+        last = after_fault(alloc, call);
         if last == Went::Otherwise {
-            return Ok((Some(call), last));
+            return (Some(call), last);
         }
     }
-    Ok((None, last))
+    (None, last)
 }
 
 #[test]
-fn a_stop_or_a_fault_at_each_call_leaves_what_was_told(rt: HostRuntime) -> Result<(), Fail> {
-    let (calls, last) = stops(rt.alloc())?;
+fn a_stop_or_a_fault_at_each_call_leaves_what_was_told(rt: HostRuntime) {
+    let (calls, last) = stops(rt.alloc());
     assert_eq!(rt; last, Went::Done(7), "behind {calls}");
-    assert_eq!(rt; faults(rt.alloc(), calls)?, (None, Went::Done(7)));
-    Ok(())
+    assert_eq!(rt; faults(rt.alloc(), calls), (None, Went::Done(7)));
 }
 
 const SERVE: Run = Run::SERVE;
@@ -319,13 +353,9 @@ const ENDS: [(u64, Run); 3] = [
 ];
 
 #[test]
-fn a_broken_list_is_told(rt: HostRuntime) -> Result<(), Fail> {
+fn a_broken_list_is_told(rt: HostRuntime) {
     for (call, run) in &ENDS {
-        let mut keeper = MemoryKeeper::new(rt.alloc(), &[])?;
-        let disk = disk(rt.alloc(), Some(*call), None)?;
-        let steps = [Step::Serves(*run)];
-        let other = play(rt.alloc(), disk, &mut keeper, &steps);
+        let other = played(rt.alloc(), Some(*call), &[], &[Step::Serves(*run)]);
         assert_eq!(rt; other, None, "at {call}");
     }
-    Ok(())
 }

@@ -8,11 +8,11 @@ use crate::asks::{
     CANCEL_2, CANCELLED_B_LISTED, HISTORY, HISTORY_FAILED, LIST, NO_ITEM, NO_ITEMS, NO_ROWS,
     REMOVE_1,
 };
-use crate::bench::{Run, Step, disk, play};
+use crate::bench::{Run, Step, Went, disk, play, played};
 use crate::told::{Head, Told, Turn};
-use dm_hist::{Keeper, KeeperFault, MemoryKeeper, Row, RowFilter, RowList};
-use dm_types::ItemId;
-use std::test::Fail;
+use dm_hist::{Keeper, KeeperFault, Row, RowFilter, RowList};
+use dm_types::{ItemId, NoMemory};
+use std::alloc::Global;
 
 const FAILED: Told = Told::Reply(Head::Unavailable, HISTORY_FAILED);
 
@@ -120,9 +120,8 @@ const CASES: [(&[u64], &[Turn], &[Turn]); 6] = [
 ];
 
 #[test]
-fn items_move_to_the_history(rt: HostRuntime) -> Result<(), Fail> {
+fn items_move_to_the_history(rt: HostRuntime) {
     for (number, (failing, before, turns)) in CASES.iter().enumerate() {
-        let mut keeper = MemoryKeeper::new(rt.alloc(), failing)?;
         let steps = [
             Step::Serves(Run {
                 turns: *before,
@@ -133,11 +132,9 @@ fn items_move_to_the_history(rt: HostRuntime) -> Result<(), Fail> {
                 ..Run::SERVE
             }),
         ];
-        let disk = disk(rt.alloc(), None, None)?;
-        let other = play(rt.alloc(), disk, &mut keeper, &steps);
+        let other = played(rt.alloc(), None, failing, &steps);
         assert_eq!(rt; other, None, "in {number}");
     }
-    Ok(())
 }
 
 /// A history for which there is no memory.
@@ -189,13 +186,19 @@ const WANTED: &[Turn] = &[
     NONE_LISTED,
 ];
 
-#[test]
-fn want_of_memory_is_told(rt: HostRuntime) -> Result<(), Fail> {
-    let disk = disk(rt.alloc(), None, None)?;
+/// The first run that goes otherwise.
+fn first_untold(alloc: Global) -> Option<(usize, Went)> {
     let steps = [Step::Serves(Run {
         turns: WANTED,
         ..Run::SERVE
     })];
-    assert_eq!(rt; play(rt.alloc(), disk, &mut Wanting, &steps), None);
-    Ok(())
+    match disk(alloc, None, None) {
+        Ok(disk) => play(alloc, disk, &mut Wanting, &steps),
+        Err(NoMemory) => Some((usize::MAX, Went::Otherwise)),
+    }
+}
+
+#[test]
+fn want_of_memory_is_told(rt: HostRuntime) {
+    assert_eq!(rt; first_untold(rt.alloc()), None);
 }

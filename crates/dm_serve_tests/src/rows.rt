@@ -4,12 +4,14 @@ use crate::asks::{
     CANCEL_1, LIST, NO_ITEM, NO_ITEMS, PAUSE_1, PAUSED_A_LISTED, REMOVE_1, REMOVE_2, REPORT,
     RESUME_1, SHOW_1, STOP, STOPPING,
 };
-use crate::bench::{Run, Step, disk, hold, make_outside, play};
+use crate::bench::{Outside, Run, Step, hold, make_outside, played, tools};
 use crate::told::{Head, Told, Turn, conns, first_other};
+use dm_disk::MemoryDisk;
 use dm_hist::MemoryKeeper;
 use dm_run_bench::{Left, stands};
 use dm_session::Session;
-use std::test::Fail;
+use dm_types::NoMemory;
+use std::alloc::Global;
 
 /// The journal with the first item: a Reopened and an Added.
 pub(crate) const A_ALONE: &[u8] =
@@ -255,40 +257,57 @@ const ENDS: [&[Step]; 9] = [
 ];
 
 #[test]
-fn requests_are_answered_in_turn(rt: HostRuntime) -> Result<(), Fail> {
+fn requests_are_answered_in_turn(rt: HostRuntime) {
     for (number, steps) in CASES.iter().enumerate() {
-        let mut keeper = MemoryKeeper::new(rt.alloc(), &[])?;
-        let disk = disk(rt.alloc(), None, None)?;
-        let other = play(rt.alloc(), disk, &mut keeper, steps);
+        let other = played(rt.alloc(), None, &[], steps);
         assert_eq!(rt; other, None, "in {number}");
     }
-    Ok(())
 }
 
 #[test]
-fn a_session_takes_a_moment_for_each_connection(rt: HostRuntime) -> Result<(), Fail> {
-    let alloc = rt.alloc();
-    let run = Run {
-        moments: [2000, 3000, 4000, 5000, 6000, 7000, 8000, 9000],
-        ..SERVE
-    };
-    let mut keeper = MemoryKeeper::new(alloc, &[])?;
-    let mut outside = make_outside(alloc, &run, conns(alloc, MOMENTS)?)?;
-    let empty = disk(alloc, None, None)?;
-    let Session { ending, mut disk } = hold(alloc, &mut outside, empty, &mut keeper, 1000, 6);
-    assert_eq!(rt; (ending.status(), ending.errs_text()), (0, b"".as_slice()));
-    assert_eq!(rt; first_other(alloc, &outside.conns, MOMENTS), None);
-    assert!(rt; stands(alloc, &mut disk, Left::Journal(AT_MOMENTS)));
-    Ok(())
-}
-
-#[test]
-fn a_run_ends(rt: HostRuntime) -> Result<(), Fail> {
+fn a_run_ends(rt: HostRuntime) {
     for (number, steps) in ENDS.iter().enumerate() {
-        let mut keeper = MemoryKeeper::new(rt.alloc(), &[])?;
-        let disk = disk(rt.alloc(), None, None)?;
-        let other = play(rt.alloc(), disk, &mut keeper, steps);
+        let other = played(rt.alloc(), None, &[], steps);
         assert_eq!(rt; other, None, "in {number}");
     }
-    Ok(())
+}
+
+/// The clock's moments behind the opening's.
+const BEHIND: Run = Run {
+    moments: [2000, 3000, 4000, 5000, 6000, 7000, 8000, 9000],
+    ..SERVE
+};
+
+fn outside_of_moments(alloc: Global) -> Result<Outside, NoMemory> {
+    let coming = conns(alloc, MOMENTS)?;
+    make_outside(alloc, &BEHIND, coming)
+}
+
+/// The status of a session, the first turn that goes otherwise, and whether the journal is right.
+fn held(
+    alloc: Global,
+    outside: &mut Outside,
+    disk: MemoryDisk,
+    keeper: &mut MemoryKeeper,
+) -> (u8, Option<usize>, bool) {
+    let Session { ending, disk } = hold(alloc, outside, disk, keeper, 1000, 6);
+    let mut disk = disk;
+    let is_left = stands(alloc, &mut disk, Left::Journal(AT_MOMENTS));
+    let other = first_other(alloc, &outside.conns, MOMENTS);
+    (ending.status(), other, is_left)
+}
+
+fn session(alloc: Global) -> Option<(u8, Option<usize>, bool)> {
+    match tools(alloc, None, &[]) {
+        Ok((disk, mut keeper)) => match outside_of_moments(alloc) {
+            Ok(mut outside) => Some(held(alloc, &mut outside, disk, &mut keeper)),
+            Err(NoMemory) => None,
+        },
+        Err(NoMemory) => None,
+    }
+}
+
+#[test]
+fn a_session_takes_a_moment_for_each_connection(rt: HostRuntime) {
+    assert_eq!(rt; session(rt.alloc()), Some((0, None, true)));
 }
